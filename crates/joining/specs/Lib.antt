@@ -1,0 +1,11 @@
+pub mod Rows
+pub mod Faults
+pub mod Judged
+pub mod Laws
+pub mod Joinings
+pub mod Rise
+pub mod Worked
+pub mod Rowed
+pub mod Extremes
+pub mod MeanLawful
+pub mod ExtremesLawful

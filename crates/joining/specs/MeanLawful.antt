@@ -1,0 +1,56 @@
+-- The mean keeps the laws; proofs only.
+use mathlib.Core.Path.{_≡_}
+use mathlib.Core.List.{List, [], _∷_}
+use Prim.Native.Nat.{ℕ, zero, suc, _+_, _*_, _/_, _≤_, _<_, zero-le, suc-le-suc}
+use native.Mathlib.Nat.{mul-le-mul-left, mul-comm, add-mul, le-div-iff-mul-le, div-le-of-le-mul, div-mul-le-self}
+use native.Mathlib.Omega.{arith}
+use lib.ListN.{length, getD}
+use Rattle.joining.specs.Rows.{Rows}
+use Rattle.joining.specs.Laws.{Lawful, None-falls, least, greatest}
+use Rattle.joining.specs.Joinings.{weight-total, weighed, mean}
+use Rattle.joining.specs.Extremes.{least-below, greatest-above}
+use Rattle.joining.specs.Rowed.{row-facts}
+
+weighed-above : (m : ℕ) (ws fs : List ℕ) → length ws ≡ length fs → ((k : ℕ) → k < length fs → m ≤ getD fs k 0) → weight-total ws * m ≤ weighed ws fs
+weighed-above m [] fs e r = omega arith
+weighed-above m (w ∷ ws) [] e r = absurd (let z : ⊥ = omega arith in z)
+weighed-above m (w ∷ ws) (f ∷ fs) e r =
+    let here = mul-le-mul-left w (r 0 (suc-le-suc zero-le)) in
+    let more = weighed-above m ws fs (omega arith) (λ k l. r (suc k) (suc-le-suc l)) in
+    omega (arith, add-mul w (weight-total ws) m)
+
+pub weighed-below : (m : ℕ) (ws fs : List ℕ) → length ws ≡ length fs → ((k : ℕ) → k < length fs → getD fs k 0 ≤ m) → weighed ws fs ≤ weight-total ws * m
+weighed-below m [] fs e r = omega arith
+weighed-below m (w ∷ ws) [] e r = absurd (let z : ⊥ = omega arith in z)
+weighed-below m (w ∷ ws) (f ∷ fs) e r =
+    let here = mul-le-mul-left w (r 0 (suc-le-suc zero-le)) in
+    let more = weighed-below m ws fs (omega arith) (λ k l. r (suc k) (suc-le-suc l)) in
+    omega (arith, add-mul w (weight-total ws) m)
+
+weighed-rises : (ws fs gs : List ℕ) → length ws ≡ length fs → length ws ≡ length gs → None-falls fs gs → weighed ws fs ≤ weighed ws gs
+weighed-rises [] fs gs d e r = omega arith
+weighed-rises (w ∷ ws) [] gs d e r = absurd (let z : ⊥ = omega arith in z)
+weighed-rises (w ∷ ws) (f ∷ fs) [] d e r = absurd (let z : ⊥ = omega arith in z)
+weighed-rises (w ∷ ws) (f ∷ fs) (g ∷ gs) d e r =
+    let here = mul-le-mul-left w (r 0 (suc-le-suc zero-le)) in
+    let more = weighed-rises ws fs gs (omega arith) (omega arith) (λ k l. r (suc k) (suc-le-suc l)) in
+    omega arith
+
+pub total-positive : (ws : List ℕ) → 1 ≤ length ws → ((k : ℕ) → k < length ws → 1 ≤ getD ws k 0) → 0 < weight-total ws
+total-positive [] h r = absurd (let z : ⊥ = omega arith in z)
+total-positive (w ∷ ws) h r = omega (arith, r 0 (suc-le-suc zero-le))
+
+positive : (ws fs : List ℕ) → Rows ws fs → 0 < weight-total ws
+positive ws fs r = let row = row-facts ws fs r in total-positive ws (row .some) (row .weighs)
+
+pub mean-lawful : Lawful mean
+mean-lawful = record {
+  above-least = λ ws fs r.
+      let low = weighed-above (least fs) ws fs (row-facts ws fs r .as-long) (least-below fs) in
+      le-div-iff-mul-le (positive ws fs r) .1 (omega (arith, mul-comm (least fs) (weight-total ws)));
+  below-greatest = λ ws fs r.
+      div-le-of-le-mul (weight-total ws) (weighed-below (greatest fs) ws fs (row-facts ws fs r .as-long) (greatest-above fs));
+  monotone = λ ws fs gs r s n.
+      let up = weighed-rises ws fs gs (row-facts ws fs r .as-long) (row-facts ws gs s .as-long) n in
+      le-div-iff-mul-le (positive ws fs r) .1 (omega (arith, div-mul-le-self (weighed ws fs) (weight-total ws)));
+}

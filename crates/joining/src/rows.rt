@@ -1,0 +1,29 @@
+//! The two rows that a joining takes, and the check that every joining makes of them.
+ghost use mathlib.Core.Path.{_≡_};
+ghost use Rattle.joining.specs.Faults.{joining-refusal};
+ghost use Rattle.joining.specs.Judged.{Judged};
+ghost use Rattle.joining.specs.Rows.{joined};
+ghost use Rattle.refusal.specs.Told.{told};
+use crate::fault::JoiningFault;
+
+/// The most places that a row has.
+pub const LONGEST_ROW: usize = 16;
+
+/// The greatest figure that a joining takes, in ticks.
+pub const GREATEST_FIGURE: u32 = 1_000_000_000;
+
+/// Whether the rows are lawful; if not, what is wrong first: their lengths, then the first bad pair.
+pub fn check_rows(weights: &[u8], figures: &[u32]) -> Result<(), JoiningFault>
+    ensures answer { λ r. ⌜ told joining-refusal r ≡ joined (λ _ _. tt) (now (weights .entry)) (now (figures .entry)) ⌝ }
+    ensures means { λ r. ⌜ Judged (now (weights .entry)) (now (figures .entry)) r ⌝ }
+{
+    if weights.len() != figures.len() || weights.is_empty() || weights.len() > LONGEST_ROW {
+        return Err(JoiningFault::Lengths);
+    }
+    for (place, weight) in weights.iter().enumerate() {
+        if *weight == 0 || figures[place] > GREATEST_FIGURE {
+            return Err(JoiningFault::Pair(place));
+        }
+    }
+    Ok(())
+}

@@ -1,0 +1,27 @@
+//! The worst of a row.
+ghost use Rattle.joining.specs.Joinings.{worst};
+ghost use Rattle.joining.specs.ExtremesLawful.{worst-lawful};
+use crate::fault::JoiningFault;
+use crate::joining::Joining;
+use crate::rows::check_rows;
+
+/// The greatest figure of the row, whatever the weights. (The field calls it the worst case.)
+#[derive(Clone, Copy)]
+pub struct Worst;
+
+pub impl Joining for Worst as WorstJoining {
+    ghost meaning = { λ _. worst };
+
+    ghost lawful = { λ _. worst-lawful };
+
+    fn join(&self, weights: &[u8], figures: &[u32]) -> Result<u32, JoiningFault> {
+        check_rows(weights, figures)?;
+        let mut greatest = figures[0];
+        for figure in figures {
+            if *figure > greatest {
+                greatest = *figure;
+            }
+        }
+        Ok(greatest)
+    }
+}
