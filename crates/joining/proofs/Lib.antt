@@ -1,3 +1,5 @@
 pub mod Checked
+pub mod Examples
 pub mod Risen
+pub mod Standing
 pub mod Summed

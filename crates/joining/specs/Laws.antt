@@ -1,5 +1,6 @@
 -- The two laws that every joining keeps.
 use mathlib.Core.List.{List}
+use mathlib.Core.Path.{_≡_}
 use Prim.Native.Nat.{ℕ, _≤_, _<_, min, max}
 use lib.ListN.{length, getD}
 use Rattle.std.specs.shelf.Lists.{folded}
@@ -12,6 +13,16 @@ least fs = folded min (getD fs 0 0) fs
 -- the greatest figure of a row
 abbrev pub greatest : List ℕ → ℕ
 greatest fs = folded max (getD fs 0 0) fs
+
+-- what a least figure is: it stands in the row, and no figure is below it
+pub record Is-least (fs : List ℕ) (f : ℕ) : Type 0 where
+  pub stands : (k : ℕ) × (k < length fs) × (getD fs k 0 ≡ f)
+  pub none-below : (k : ℕ) → k < length fs → f ≤ getD fs k 0
+
+-- what a greatest figure is: it stands in the row, and no figure is above it
+pub record Is-greatest (fs : List ℕ) (f : ℕ) : Type 0 where
+  pub stands : (k : ℕ) × (k < length fs) × (getD fs k 0 ≡ f)
+  pub none-above : (k : ℕ) → k < length fs → getD fs k 0 ≤ f
 
 -- no figure falls from fs to gs
 abbrev pub None-falls : List ℕ → List ℕ → Type 0

@@ -18,5 +18,5 @@ pub trait Joining {
 
     /// The figure that the rows join to, or the fault of rows that are not lawful.
     fn join(&self, weights: &[u8], figures: &[u32]) -> Result<u32, JoiningFault>
-        ensures { λ r. ⌜ told joining-refusal r ≡ joined (meaning (now (self .entry))) (now (weights .entry)) (now (figures .entry)) ⌝ };
+        ensures answer { λ r. ⌜ told joining-refusal r ≡ joined (meaning (now (self .entry))) (now (weights .entry)) (now (figures .entry)) ⌝ };
 }

@@ -27,3 +27,6 @@ pub use rows::check_rows;
 pub use worked::worked_rows;
 pub use worst::Worst;
 pub use worst::WorstJoining;
+
+#[cfg(test)]
+mod tests;

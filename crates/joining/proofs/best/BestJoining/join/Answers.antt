@@ -1,5 +1,5 @@
-use mathlib.Core.Path.{_≡_, ap, _∙_}
-use Prim.Native.Nat.{min}
+use mathlib.Core.Path.{_≡_, ap, subst, sym, _∙_}
+use Prim.Native.Nat.{ℕ, min}
 use native.Mathlib.Omega.{arith}
 use lib.ListN.{getD}
 use Rattle.std.specs.shelf.Lists.{folded}
@@ -7,7 +7,10 @@ use Rattle.std.proofs.shelf.Lists.{take-all}
 use Rattle.std.proofs.shelf.Sums.{folded-more}
 use Rattle.refusal.specs.Told.{answered}
 use Rattle.joining.specs.Joinings.{best}
+use Rattle.joining.specs.Laws.{least, Is-least}
+use Rattle.joining.specs.Rowed.{row-facts}
 use Rattle.joining.proofs.Checked.{lawful-answered}
+use Rattle.joining.proofs.Standing.{least-is}
 use Rattle.joining.proofs.best.BestJoining.join.Needs as need
 use Rattle.joining.proofs.best.BestJoining.join.Needs.{then-figure-least, else-figure-least}
 
@@ -19,5 +22,13 @@ loop-figure-again c =
 
 pub returns : need.returns
 returns c =
+    let ws = c .args .weights .now in
     let fs = c .args .figures .now in
-    ap answered (c .loop-figure .inv ∙ ap (folded min (getD fs 0 0)) (take-all (c .loop-figure .figure-index) fs (c .loop-figure-test .left))) ∙ lawful-answered best (c .args .weights .now) fs (c .in-Continue-check-rows .ensures tt .means)
+    let rows = c .in-Continue-check-rows .ensures tt .means in
+    let is : c .loop-figure .least ≡ least fs =
+        c .loop-figure .inv ∙ ap (folded min (getD fs 0 0)) (take-all (c .loop-figure .figure-index) fs (c .loop-figure-test .left)) in
+    let row = row-facts ws fs rows in
+    record {
+      answer = ap answered is ∙ lawful-answered best ws fs rows;
+      least = subst (λ (f : ℕ). Is-least fs f) (sym is) (least-is fs (omega arith));
+    }

@@ -53,4 +53,6 @@ cast-result c =
 
 pub returns : need.returns
 returns c =
-    ap answered (meant c) ∙ lawful-answered mean (c .args .weights .now) (c .args .figures .now) (c .in-Continue-check-rows .ensures tt .means)
+    record {
+      answer = ap answered (meant c) ∙ lawful-answered mean (c .args .weights .now) (c .args .figures .now) (c .in-Continue-check-rows .ensures tt .means);
+    }

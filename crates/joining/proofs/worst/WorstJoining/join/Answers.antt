@@ -1,5 +1,5 @@
-use mathlib.Core.Path.{_≡_, ap, _∙_}
-use Prim.Native.Nat.{max}
+use mathlib.Core.Path.{_≡_, ap, subst, sym, _∙_}
+use Prim.Native.Nat.{ℕ, max}
 use native.Mathlib.Omega.{arith}
 use lib.ListN.{getD}
 use Rattle.std.specs.shelf.Lists.{folded}
@@ -7,7 +7,10 @@ use Rattle.std.proofs.shelf.Lists.{take-all}
 use Rattle.std.proofs.shelf.Sums.{folded-more}
 use Rattle.refusal.specs.Told.{answered}
 use Rattle.joining.specs.Joinings.{worst}
+use Rattle.joining.specs.Laws.{greatest, Is-greatest}
+use Rattle.joining.specs.Rowed.{row-facts}
 use Rattle.joining.proofs.Checked.{lawful-answered}
+use Rattle.joining.proofs.Standing.{greatest-is}
 use Rattle.joining.proofs.worst.WorstJoining.join.Needs as need
 use Rattle.joining.proofs.worst.WorstJoining.join.Needs.{then-figure-greatest, else-figure-greatest}
 
@@ -19,5 +22,13 @@ loop-figure-again c =
 
 pub returns : need.returns
 returns c =
+    let ws = c .args .weights .now in
     let fs = c .args .figures .now in
-    ap answered (c .loop-figure .inv ∙ ap (folded max (getD fs 0 0)) (take-all (c .loop-figure .figure-index) fs (c .loop-figure-test .left))) ∙ lawful-answered worst (c .args .weights .now) fs (c .in-Continue-check-rows .ensures tt .means)
+    let rows = c .in-Continue-check-rows .ensures tt .means in
+    let is : c .loop-figure .greatest ≡ greatest fs =
+        c .loop-figure .inv ∙ ap (folded max (getD fs 0 0)) (take-all (c .loop-figure .figure-index) fs (c .loop-figure-test .left)) in
+    let row = row-facts ws fs rows in
+    record {
+      answer = ap answered is ∙ lawful-answered worst ws fs rows;
+      greatest = subst (λ (f : ℕ). Is-greatest fs f) (sym is) (greatest-is fs (omega arith));
+    }
