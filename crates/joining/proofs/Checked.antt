@@ -43,8 +43,8 @@ all-good (w ∷ ws) (f ∷ fs) e r =
 one-good : (w f p n : ℕ) → cond (good-pair w f) (1 + p) 0 ≡ suc n → (good-pair w f ≡ true) × (p ≡ n)
 one-good w f p n e =
     elim (cases-bool (good-pair w f)) [
-      inl t ↦ (t, (let x = cond-true (good-pair w f) (1 + p) 0 t in omega arith))
-    | inr t ↦ absurd (let x = cond-false (good-pair w f) (1 + p) 0 t in let z : ⊥ = omega arith in z)
+      | inl t ↦ (t, (let x = cond-true (good-pair w f) (1 + p) 0 t in omega arith))
+      | inr t ↦ absurd (let x = cond-false (good-pair w f) (1 + p) 0 t in let z : ⊥ = omega arith in z)
     ]
 
 -- where none is found bad, every pair is good
@@ -67,11 +67,11 @@ pub record Answered {A : Type 0} (join : List ℕ → List ℕ → A) (ws fs : L
 pub answered-lawful : {A : Type 0} (join : List ℕ → List ℕ → A) (ws fs : List ℕ) (x : A) → answered x ≡ joined join ws fs → Answered join ws fs x
 answered-lawful join ws fs x h =
     elim (cases-bool (fitting ws fs)) [
-      inl a ↦ elim (cases-bool (eqb (first-bad ws fs) (length ws))) [
-        inl b ↦
-          let e = eqb-true (first-bad ws fs) (length ws) b in
-          record { rows = record { fit = a; good = each-good ws fs e }; is = (let y = h ∙ sym (joined-all join ws fs a e) in cc) }
-      | inr b ↦ absurd (let y = h ∙ cond-true (fitting ws fs) _ _ a ∙ cond-false (eqb (first-bad ws fs) (length ws)) _ _ b in let z : _≡_ {A = ℕ} 0 1 = cc in let w : ⊥ = omega arith in w)
+      | inl a ↦ elim (cases-bool (eqb (first-bad ws fs) (length ws))) [
+        | inl b ↦
+            let e = eqb-true (first-bad ws fs) (length ws) b in
+            record { rows = record { fit = a; good = each-good ws fs e }; is = (let y = h ∙ sym (joined-all join ws fs a e) in cc) }
+        | inr b ↦ absurd (let y = h ∙ cond-true (fitting ws fs) _ _ a ∙ cond-false (eqb (first-bad ws fs) (length ws)) _ _ b in let z : _≡_ {A = ℕ} 0 1 = cc in let w : ⊥ = omega arith in w)
       ]
-    | inr a ↦ absurd (let y = h ∙ cond-false (fitting ws fs) _ _ a in let z : _≡_ {A = ℕ} 0 1 = cc in let w : ⊥ = omega arith in w)
+      | inr a ↦ absurd (let y = h ∙ cond-false (fitting ws fs) _ _ a in let z : _≡_ {A = ℕ} 0 1 = cc in let w : ⊥ = omega arith in w)
     ]

@@ -1,3 +1,4 @@
+pub mod Bounded
 pub mod Checked
 pub mod Examples
 pub mod Risen

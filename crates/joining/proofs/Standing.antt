@@ -24,19 +24,19 @@ folded-stands : (pick : ℕ → ℕ → ℕ) → Picks pick → (a : ℕ) (fs : 
 folded-stands pick picks a [] = inl refl
 folded-stands pick picks a (f ∷ fs) =
     elim (folded-stands pick picks (pick a f) fs) [
-      inl e ↦ elim (picks a f) [
-        inl d ↦ inl (e ∙ d)
-      | inr d ↦ inr (0, suc-le-suc zero-le, sym (e ∙ d))
+      | inl e ↦ elim (picks a f) [
+        | inl d ↦ inl (e ∙ d)
+        | inr d ↦ inr (0, suc-le-suc zero-le, sym (e ∙ d))
       ]
-    | inr s ↦ inr (suc (s .0), suc-le-suc (s .1), s .2)
+      | inr s ↦ inr (suc (s .0), suc-le-suc (s .1), s .2)
     ]
 
 -- started at the first figure, it answers a figure of the row
 starts-stands : (pick : ℕ → ℕ → ℕ) → Picks pick → (fs : List ℕ) → 1 ≤ length fs → Stands fs (folded pick (getD fs 0 0) fs)
 starts-stands pick picks fs some =
     elim (folded-stands pick picks (getD fs 0 0) fs) [
-      inl e ↦ (0, some, sym e)
-    | inr s ↦ s
+      | inl e ↦ (0, some, sym e)
+      | inr s ↦ s
     ]
 
 min-picks : Picks min

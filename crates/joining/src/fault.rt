@@ -6,6 +6,7 @@ use refusal::Fault;
 use refusal::Layer;
 use refusal::Refusal;
 use refusal::RefusalDisplay;
+use std::error::Error;
 use std::fmt;
 
 /// What is wrong with the two rows that a joining was handed.
@@ -43,3 +44,6 @@ pub impl fmt::Display for JoiningFault as JoiningFaultDisplay {
         write!(f, "{refusal}")
     }
 }
+
+/// A fault can be handed on by `?` as any error.
+pub impl Error for JoiningFault as JoiningFaultError {}

@@ -7,7 +7,12 @@ use crate::fault::JoiningFault;
 use crate::joining::Joining;
 
 /// How far the answer rises from the figures `before` to the figures `after`; 0 where it does not rise.
-pub fn rise<J: Joining>(joining: &J, weights: &[u8], before: &[u32], after: &[u32]) -> Result<u32, JoiningFault>
+pub fn rise<J: Joining>(
+    joining: &J,
+    weights: &[u8],
+    before: &[u32],
+    after: &[u32],
+) -> Result<u32, JoiningFault>
     ensures answer { λ r. ⌜ told joining-refusal r ≡ risen (J·Joining .meaning (now (joining .entry))) (now (weights .entry)) (now (before .entry)) (now (after .entry)) ⌝ }
     ensures laws { λ r. ⌜ Lawful-rise (J·Joining .meaning (now (joining .entry))) (now (weights .entry)) (now (before .entry)) (now (after .entry)) (told joining-refusal r) ⌝ }
 {

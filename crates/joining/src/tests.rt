@@ -43,8 +43,14 @@ fn unlawful_rows_are_refused() -> Result<(), Fail> {
     check_eq(Mean.join(&[], &[]), Err(JoiningFault::Lengths))?;
     check_eq(Worst.join(&[1, 1], &[5]), Err(JoiningFault::Lengths))?;
     check_eq(Best.join(&[0; 17], &[0; 17]), Err(JoiningFault::Lengths))?;
-    check_eq(Mean.join(&[1, 0, 1], &[5, 6, GREATEST_FIGURE + 1]), Err(JoiningFault::Pair(1)))?;
-    check_eq(Worst.join(&[1, 1, 0], &[5, GREATEST_FIGURE + 1, 7]), Err(JoiningFault::Pair(1)))
+    check_eq(
+        Mean.join(&[1, 0, 1], &[5, 6, GREATEST_FIGURE + 1]),
+        Err(JoiningFault::Pair(1)),
+    )?;
+    check_eq(
+        Worst.join(&[1, 1, 0], &[5, GREATEST_FIGURE + 1, 7]),
+        Err(JoiningFault::Pair(1)),
+    )
 }
 
 #[test]
@@ -52,7 +58,10 @@ fn a_rise_follows_the_joining() -> Result<(), Fail> {
     check_eq(rise(&Mean, &[3, 1], &[0, 4096], &[0, 5120]), Ok(256))?;
     check_eq(rise(&Worst, &[3, 1], &[0, 4096], &[0, 5120]), Ok(1024))?;
     check_eq(rise(&Best, &[3, 1], &[4, 4096], &[0, 5120]), Ok(0))?;
-    check_eq(rise(&Best, &[3, 1], &[0, 1, 2], &[]), Err(JoiningFault::Lengths))
+    check_eq(
+        rise(&Best, &[3, 1], &[0, 1, 2], &[]),
+        Err(JoiningFault::Lengths),
+    )
 }
 
 #[test]

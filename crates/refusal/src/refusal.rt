@@ -2,10 +2,10 @@
 ghost use Rattle.refusal.specs.Line.{refusal-line};
 ghost use Rattle.std.specs.declared.option.Option.the-variants.{Some};
 use crate::layer::Layer;
-use crate::layer::LayerDisplay;
-use std::fmt;
 use crate::layer::LayerDebug;
+use crate::layer::LayerDisplay;
 use crate::layer::LayerPartialEq;
+use std::fmt;
 
 /// Why a call was refused: the refusal's number, the layer that says no, and the place at fault.
 #[derive(Clone, Copy, PartialEq, Eq, Debug)]

@@ -19,10 +19,10 @@ returns-then-weight-eq0 c =
     let i = c .loop-place .place in
     let fit : fitting ws fs ≡ true = fitting-made ws fs (omega arith) (omega arith) (omega arith) in
     let bad : good-pair (getD ws i 0) (getD fs i 0) ≡ false =
-        elim (c .then-weight-eq0 .came) [
-          then-weight-eq0·by·then-weight-eq0 w ↦ rw (w .if-weight-eq0 .taken) refl
-        | then-weight-eq0·by·else-weight-eq0·then-figures-place-gt-GREATEST-FIGURE w ↦ good-never (getD ws i 0) (getD fs i 0) (w .if-figures-place-gt-GREATEST-FIGURE .taken)
-        ] in
+    elim (c .then-weight-eq0 .came) [
+      | then-weight-eq0·by·then-weight-eq0 w ↦ rw (w .if-weight-eq0 .taken) refl
+      | then-weight-eq0·by·else-weight-eq0·then-figures-place-gt-GREATEST-FIGURE w ↦ good-never (getD ws i 0) (getD fs i 0) (w .if-figures-place-gt-GREATEST-FIGURE .taken)
+    ] in
     let none = common-drop-no good-pair ws fs i 0 0 (omega arith) (omega arith) bad in
     record {
       answer = joined-pair _ ws fs i fit (omega (arith, c .loop-place .inv .0)) (omega arith);

@@ -8,10 +8,9 @@ use Rattle.std.specs.Parts.{zip-first, zip-second, iter-rest}
 use Rattle.std.proofs.shelf.Lists.{nil-from-length}
 use Rattle.std.proofs.shelf.Pairs.{zip-more, either-empty-from-zip}
 use Rattle.refusal.specs.Told.{answered}
-use Rattle.joining.specs.Extremes.{greatest-within}
 use Rattle.joining.specs.Joinings.{mean, weighed}
 use Rattle.joining.specs.MeanLawful.{mean-lawful}
-use Rattle.joining.specs.Rowed.{row-facts}
+use Rattle.joining.proofs.Bounded.{joins-bounded}
 use Rattle.joining.proofs.Checked.{lawful-answered}
 use Rattle.joining.proofs.Summed.{bounds, weighed-more}
 use Rattle.joining.proofs.mean.MeanJoining.join.Needs as need
@@ -29,10 +28,10 @@ summed : (c : need.In-None) → c .loop-weight .sum ≡ weighed (c .args .weight
 summed c =
     let rest = iter-rest (zip-first (c .loop-weight .weight-iterator)) in
     let emptied : rest ≡ [] =
-        elim (either-empty-from-zip (c .loop-weight .weight-iterator) (c .next .last .self) (c .next .result) (c .in-None .is) (c .next .ensures .steps)) [
-          inl e ↦ e
-        | inr e ↦ nil-from-length rest (c .loop-weight .inv .2 ∙ ap length e)
-        ] in
+    elim (either-empty-from-zip (c .loop-weight .weight-iterator) (c .next .last .self) (c .next .result) (c .in-None .is) (c .next .ensures .steps)) [
+      | inl e ↦ e
+      | inr e ↦ nil-from-length rest (c .loop-weight .inv .2 ∙ ap length e)
+    ] in
     let none = ap (λ xs. weighed xs (iter-rest (zip-second (c .loop-weight .weight-iterator)))) emptied in
     omega (arith, c .loop-weight .inv)
 
@@ -45,11 +44,7 @@ div-result c =
 
 pub cast-result : need.cast-result
 cast-result c =
-    let ws = c .args .weights .now in
-    let fs = c .args .figures .now in
-    let rows = c .in-Continue-check-rows .ensures tt .means in
-    let row = row-facts ws fs rows in
-    omega (arith, meant c, mean-lawful .below-greatest ws fs rows, greatest-within 1000000000 fs (omega arith) (row .bounded))
+    omega (arith, meant c, joins-bounded mean mean-lawful (c .args .weights .now) (c .args .figures .now) (c .in-Continue-check-rows .ensures tt .means))
 
 pub returns : need.returns
 returns c =

@@ -26,7 +26,7 @@ returns c =
     let fs = c .args .figures .now in
     let rows = c .in-Continue-check-rows .ensures tt .means in
     let is : c .loop-figure .greatest ≡ greatest fs =
-        c .loop-figure .inv ∙ ap (folded max (getD fs 0 0)) (take-all (c .loop-figure .figure-index) fs (c .loop-figure-test .left)) in
+    c .loop-figure .inv ∙ ap (folded max (getD fs 0 0)) (take-all (c .loop-figure .figure-index) fs (c .loop-figure-test .left)) in
     let row = row-facts ws fs rows in
     record {
       answer = ap answered is ∙ lawful-answered worst ws fs rows;
