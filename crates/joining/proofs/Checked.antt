@@ -16,12 +16,6 @@ use Rattle.joining.specs.Rows.{Rows, fitting, good-pair, first-bad, bad-rows, 
 pub fitting-made : (ws fs : List ℕ) → length ws ≡ length fs → 1 ≤ length ws → length ws ≤ 16 → fitting ws fs ≡ true
 fitting-made ws fs e some few = grind (arith, tells)
 
-pub good-made : (w f : ℕ) → 1 ≤ w → w ≤ 255 → f ≤ 1000000000 → good-pair w f ≡ true
-good-made w f some light bounded = grind (arith, tells)
-
-pub good-never : (w f : ℕ) → 1000000000 < f → good-pair w f ≡ false
-good-never w f h = grind (arith, tells)
-
 pub joined-lengths : {A : Type 0} (join : List ℕ → List ℕ → A) (ws fs : List ℕ) → fitting ws fs ≡ false → refused (bad-rows 0) ≡ joined join ws fs
 joined-lengths join ws fs h = sym (cond-false (fitting ws fs) _ _ h)
 

@@ -25,6 +25,7 @@ pub use mean::Mean;
 pub use mean::MeanJoining;
 pub use rises::rise;
 pub use rows::GREATEST_FIGURE;
+pub use rows::LEAST_WEIGHT;
 pub use rows::LONGEST_ROW;
 pub use rows::check_rows;
 pub use worked::worked_rows;

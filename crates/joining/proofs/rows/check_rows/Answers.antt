@@ -1,5 +1,5 @@
 use mathlib.Core.Bool.{true, false}
-use mathlib.Core.Path.{_≡_, refl, sym, ap}
+use mathlib.Core.Path.{_≡_, sym, ap}
 use Prim.Native.Nat.{_<_, _≤_, _+_}
 use native.Mathlib.Omega.{arith}
 use borrow.Author.Count.{below-more}
@@ -8,21 +8,16 @@ use Rattle.std.proofs.shelf.Sums.{common-drop-yes, common-drop-no}
 use Rattle.std.proofs.shelf.Lists.{drop-all}
 use Rattle.std.proofs.shelf.Tests.{eqb-false}
 use Rattle.joining.specs.Rows.{fitting, good-pair, first-bad}
-use Rattle.joining.proofs.Checked.{fitting-made, good-made, good-never, joined-pair, joined-all}
+use Rattle.joining.proofs.Checked.{fitting-made, joined-pair, joined-all}
 use Rattle.joining.proofs.rows.check_rows.Needs as need
-use Rattle.joining.proofs.rows.check_rows.Needs.{then-weight-eq0·by·then-weight-eq0, then-weight-eq0·by·else-weight-eq0·then-figures-place-gt-GREATEST-FIGURE}
 
-pub returns-then-weight-eq0 : need.returns-then-weight-eq0
-returns-then-weight-eq0 c =
+pub returns-then-not-good-pair : need.returns-then-not-good-pair
+returns-then-not-good-pair c =
     let ws = c .args .weights .now in
     let fs = c .args .figures .now in
     let i = c .loop-place .place in
     let fit : fitting ws fs ≡ true = fitting-made ws fs (omega arith) (omega arith) (omega arith) in
-    let bad : good-pair (getD ws i 0) (getD fs i 0) ≡ false =
-    elim (c .then-weight-eq0 .came) [
-      | then-weight-eq0·by·then-weight-eq0 w ↦ rw (w .if-weight-eq0 .taken) refl
-      | then-weight-eq0·by·else-weight-eq0·then-figures-place-gt-GREATEST-FIGURE w ↦ good-never (getD ws i 0) (getD fs i 0) (w .if-figures-place-gt-GREATEST-FIGURE .taken)
-    ] in
+    let bad : good-pair (getD ws i 0) (getD fs i 0) ≡ false = sym (c .if-not-good-pair .ensures tt) in
     let none = common-drop-no good-pair ws fs i 0 0 (omega arith) (omega arith) bad in
     record {
       answer = joined-pair _ ws fs i fit (omega (arith, c .loop-place .inv .0)) (omega arith);
@@ -34,7 +29,7 @@ loop-place-again c =
     let ws = c .args .weights .now in
     let fs = c .args .figures .now in
     let i = c .loop-place .place in
-    let good : good-pair (getD ws i 0) (getD fs i 0) ≡ true = good-made (getD ws i 0) (getD fs i 0) (omega arith) (omega (arith, c .typed .weights i)) (omega arith) in
+    let good : good-pair (getD ws i 0) (getD fs i 0) ≡ true = sym (c .if-not-good-pair .ensures tt) in
     let more = common-drop-yes good-pair ws fs i 0 0 (omega arith) (omega arith) good in
     (omega (arith, c .loop-place .inv .0), below-more _ _ (c .loop-place .inv .1) good)
 

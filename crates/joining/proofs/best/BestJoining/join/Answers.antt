@@ -1,4 +1,4 @@
-use mathlib.Core.Path.{_≡_, ap, subst, sym, _∙_}
+use mathlib.Core.Path.{_≡_, refl, ap, subst, sym, _∙_}
 use Prim.Native.Nat.{ℕ, min}
 use native.Mathlib.Omega.{arith}
 use lib.ListN.{getD}
@@ -12,13 +12,11 @@ use Rattle.joining.specs.Rowed.{row-facts}
 use Rattle.joining.proofs.Checked.{lawful-answered}
 use Rattle.joining.proofs.Standing.{least-is}
 use Rattle.joining.proofs.best.BestJoining.join.Needs as need
-use Rattle.joining.proofs.best.BestJoining.join.Needs.{then-figure-least, else-figure-least}
 
-pub loop-figure-again : need.loop-figure-again
-loop-figure-again c =
+pub loop-figure-holds : need.loop-figure-holds
+loop-figure-holds c =
     let fs = c .args .figures .now in
-    let more = folded-more min (getD fs 0 0) fs (c .loop-figure .figure-index) 0 (c .loop-figure-test .taken) in
-    elim (c .if-figure-least .came) [ then-figure-least w ↦ omega arith | else-figure-least w ↦ omega arith ]
+    (refl, λ i l. folded-more min (getD fs 0 0) fs i 0 l)
 
 pub returns : need.returns
 returns c =
@@ -26,7 +24,7 @@ returns c =
     let fs = c .args .figures .now in
     let rows = c .in-Continue-check-rows .ensures tt .means in
     let is : c .loop-figure .least ≡ least fs =
-    c .loop-figure .inv ∙ ap (folded min (getD fs 0 0)) (take-all (c .loop-figure .figure-index) fs (c .loop-figure-test .left)) in
+    c .loop-figure .inv .0 ∙ ap (folded min (getD fs 0 0)) (take-all (c .loop-figure .figure-index) fs (c .loop-figure-test .left)) in
     let row = row-facts ws fs rows in
     record {
       answer = ap answered is ∙ lawful-answered best ws fs rows;
