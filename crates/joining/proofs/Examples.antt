@@ -5,7 +5,6 @@ use Prim.Native.Nat.{ℕ}
 use native.Mathlib.Omega.{arith}
 use Rattle.std.specs.declared.result.Result.{Result}
 use Rattle.std.specs.declared.result.Result.the-variants.{Ok}
-use Rattle.refusal.specs.Told.{answered}
 use Rattle.joining.specs.Joinings.{mean}
 use Rattle.joining.specs.Rows.{Rows}
 use Rattle.joining.specs.Worked.{Worked-rows, Shut-out}
@@ -32,10 +31,10 @@ shut-out = record {
   share-by-share = λ laws. omega (arith, laws .below-greatest (1 ∷ 1 ∷ 1 ∷ []) (100 ∷ 100 ∷ 100 ∷ []) hundreds);
 }
 
--- an answer tells its figure
-pub same-answer : (x y : ℕ) → answered x ≡ answered y → x ≡ y
-same-answer x y e = cc
+-- equal answers hold equal figures
+pub same-ok : {E : Type 0} (x y : ℕ) → _≡_ {A = Result ℕ E} (Ok x) (Ok y) → x ≡ y
+same-ok x y e = cc
 
--- four answers told apart
+-- four equal figures make equal answers
 pub four-answers : {E : Type 0} (a b c d a′ b′ c′ d′ : ℕ) → a ≡ a′ → b ≡ b′ → c ≡ c′ → d ≡ d′ → _≡_ {A = Result (List ℕ) E} (Ok (a ∷ b ∷ c ∷ d ∷ [])) (Ok (a′ ∷ b′ ∷ c′ ∷ d′ ∷ []))
 four-answers a b c d a′ b′ c′ d′ p q r s = cc
