@@ -6,7 +6,7 @@ use native.Mathlib.Omega.{arith}
 use Rattle.refusal.specs.Told.{answered}
 use Rattle.joining.specs.Extremes.{greatest-within}
 use Rattle.joining.specs.Laws.{Lawful}
-use Rattle.joining.specs.Rowed.{row-facts}
+use Rattle.joining.specs.RowFacts.{row-facts}
 use Rattle.joining.specs.Rows.{Rows, joined}
 use Rattle.joining.proofs.Checked.{answered-lawful}
 

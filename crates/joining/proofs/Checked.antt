@@ -10,7 +10,7 @@ use lib.ListN.{length, getD}
 use Rattle.std.proofs.shelf.Tests.{eq-eqb, eqb-true, ne-eqb, cond-true, cond-false, cases-bool}
 use Rattle.std.proofs.shelf.Ways.{tells}
 use Rattle.refusal.specs.Told.{Told, answered, refused}
-use Rattle.joining.specs.Rowed.{fitting-parts}
+use Rattle.joining.specs.RowFacts.{fitting-parts}
 use Rattle.joining.specs.Rows.{Rows, fitting, good-pair, first-bad, bad-rows, joined}
 
 pub fitting-made : (ws fs : List ℕ) → length ws ≡ length fs → 1 ≤ length ws → length ws ≤ 16 → fitting ws fs ≡ true

@@ -7,7 +7,7 @@ use lib.ListN.{length, getD}
 use Rattle.joining.specs.Rows.{Rows}
 use Rattle.joining.specs.Joinings.{weight-total, weighed}
 use Rattle.joining.specs.MeanLawful.{weighed-below, total-positive}
-use Rattle.joining.specs.Rowed.{row-facts}
+use Rattle.joining.specs.RowFacts.{row-facts}
 
 total-below : (ws : List ℕ) → ((k : ℕ) → k < length ws → getD ws k 0 ≤ 255) → weight-total ws ≤ 255 * length ws
 total-below [] r = omega arith

@@ -6,7 +6,7 @@ use lib.ListN.{length}
 use Rattle.joining.specs.Laws.{Lawful}
 use Rattle.joining.specs.Joinings.{worst, best}
 use Rattle.joining.specs.Extremes.{least-rises, greatest-rises, least-greatest}
-use Rattle.joining.specs.Rowed.{row-facts}
+use Rattle.joining.specs.RowFacts.{row-facts}
 
 pub worst-lawful : Lawful worst
 worst-lawful = record {

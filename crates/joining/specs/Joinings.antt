@@ -1,4 +1,4 @@
--- The three joinings of this crate, each a function of a row of weights and a row of figures.
+-- The three joinings of this crate, each a function of two rows, weights and figures.
 use mathlib.Core.List.{List, [], _∷_}
 use Prim.Native.Nat.{ℕ, _+_, _*_, _/_}
 use Rattle.joining.specs.Laws.{least, greatest}

@@ -5,7 +5,7 @@ pub mod Laws
 pub mod Joinings
 pub mod Rise
 pub mod Worked
-pub mod Rowed
+pub mod RowFacts
 pub mod Extremes
 pub mod MeanLawful
 pub mod ExtremesLawful

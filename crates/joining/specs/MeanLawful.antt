@@ -9,7 +9,7 @@ use Rattle.joining.specs.Rows.{Rows}
 use Rattle.joining.specs.Laws.{Lawful, None-falls, least, greatest}
 use Rattle.joining.specs.Joinings.{weight-total, weighed, mean}
 use Rattle.joining.specs.Extremes.{least-below, greatest-above}
-use Rattle.joining.specs.Rowed.{row-facts}
+use Rattle.joining.specs.RowFacts.{row-facts}
 
 weighed-above : (m : ℕ) (ws fs : List ℕ) → length ws ≡ length fs → ((k : ℕ) → k < length fs → m ≤ getD fs k 0) → weight-total ws * m ≤ weighed ws fs
 weighed-above m [] fs e r = omega arith

@@ -8,7 +8,7 @@ ghost use Rattle.joining.specs.Rows.{joined};
 ghost use Rattle.refusal.specs.Told.{told};
 use crate::fault::JoiningFault;
 
-/// A joining: one figure from a row of weights and a row of figures.
+/// A joining: one figure from the weights and the figures of a move's outcomes.
 pub trait Joining {
     // the function of the two rows that the joining stands for
     ghost meaning: { Self → List ℕ → List ℕ → ℕ };

@@ -1,6 +1,6 @@
 //! Joinings: what the outcomes of one move come to.
 //!
-//! A joining takes a row of weights and a row of figures, one place for each outcome, and answers one figure. (The
+//! A joining is handed two rows, weights and figures, with one place for each outcome, and answers one figure. (The
 //! field calls it the backup of a move, and a figure a value.) [`Mean`], [`Worst`] and [`Best`] are three of them.
 
 mod best;

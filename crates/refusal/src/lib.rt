@@ -13,3 +13,6 @@ pub use refusal::Refusal;
 pub use refusal::RefusalDebug;
 pub use refusal::RefusalDisplay;
 pub use refusal::RefusalPartialEq;
+
+#[cfg(test)]
+mod tests;

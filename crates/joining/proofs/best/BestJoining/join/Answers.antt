@@ -8,7 +8,7 @@ use Rattle.std.proofs.shelf.Sums.{folded-more}
 use Rattle.refusal.specs.Told.{answered}
 use Rattle.joining.specs.Joinings.{best}
 use Rattle.joining.specs.Laws.{least, Is-least}
-use Rattle.joining.specs.Rowed.{row-facts}
+use Rattle.joining.specs.RowFacts.{row-facts}
 use Rattle.joining.proofs.Checked.{lawful-answered}
 use Rattle.joining.proofs.Standing.{least-is}
 use Rattle.joining.proofs.best.BestJoining.join.Needs as need

@@ -8,7 +8,7 @@ use Rattle.std.proofs.shelf.Sums.{folded-more}
 use Rattle.refusal.specs.Told.{answered}
 use Rattle.joining.specs.Joinings.{worst}
 use Rattle.joining.specs.Laws.{greatest, Is-greatest}
-use Rattle.joining.specs.Rowed.{row-facts}
+use Rattle.joining.specs.RowFacts.{row-facts}
 use Rattle.joining.proofs.Checked.{lawful-answered}
 use Rattle.joining.proofs.Standing.{greatest-is}
 use Rattle.joining.proofs.worst.WorstJoining.join.Needs as need
