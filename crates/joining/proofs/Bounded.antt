@@ -4,11 +4,11 @@ use mathlib.Core.Path.{_≡_}
 use Prim.Native.Nat.{ℕ, _≤_}
 use native.Mathlib.Omega.{arith}
 use Rattle.refusal.specs.Told.{answered}
-use Rattle.joining.specs.Extremes.{greatest-within}
 use Rattle.joining.specs.Laws.{Lawful}
 use Rattle.joining.specs.RowFacts.{row-facts}
 use Rattle.joining.specs.Rows.{Rows, joined}
 use Rattle.joining.proofs.Checked.{answered-lawful}
+use Rattle.joining.proofs.Standing.{greatest-within}
 
 -- on lawful rows the answer is at most 1,000,000,000
 pub joins-bounded : (join : List ℕ → List ℕ → ℕ) → Lawful join → (ws fs : List ℕ) → Rows ws fs → join ws fs ≤ 1000000000

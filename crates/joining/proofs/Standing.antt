@@ -50,3 +50,9 @@ least-is fs some = record { stands = starts-stands min min-picks fs some; none-b
 
 pub greatest-is : (fs : List ℕ) → 1 ≤ length fs → Is-greatest fs (greatest fs)
 greatest-is fs some = record { stands = starts-stands max max-picks fs some; none-above = greatest-above fs }
+
+-- what bounds every figure bounds the greatest
+pub greatest-within : (m : ℕ) (fs : List ℕ) → 1 ≤ length fs → ((k : ℕ) → k < length fs → getD fs k 0 ≤ m) → greatest fs ≤ m
+greatest-within m fs some r =
+    let s = greatest-is fs some .stands in
+    omega (arith, r (s .0) (s .1), s .2)

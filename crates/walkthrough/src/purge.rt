@@ -9,11 +9,14 @@ use joining::JoiningFault;
 /// One unit of cost, in ticks.
 pub const TICKS_PER_UNIT: u32 = 1_024;
 
-/// A purge: its cost in units, and for each outcome a weight and the figure of the state that it leads to.
+/// A way to purge the belt: one move with its outcomes.
 #[derive(Clone, Copy)]
 pub struct Purge<'a> {
+    /// The cost, in units.
     pub cost: u16,
+    /// How often each outcome comes, beside the others.
     pub weights: &'a [u8],
+    /// The figure of the state that each outcome leads to.
     pub figures: &'a [u32],
 }
 
