@@ -1,5 +1,5 @@
 -- What `joined` tells, way by way, and that it answers exactly on lawful rows.
-use mathlib.Core.Bool.{Bool, true, false, cond}
+use mathlib.Core.Bool.{true, cond}
 use mathlib.Core.Logic.{inl, inr}
 use mathlib.Core.List.{List, [], _∷_}
 use mathlib.Core.Path.{_≡_, refl, sym, _∙_, ap}
@@ -9,15 +9,12 @@ use lib.Dec.{eqb}
 use lib.ListN.{length, getD}
 use Rattle.std.proofs.shelf.Tests.{eq-eqb, eqb-true, ne-eqb, cond-true, cond-false, cases-bool}
 use Rattle.std.proofs.shelf.Ways.{tells}
-use Rattle.refusal.specs.Told.{Told, answered, refused}
+use Rattle.refusal.specs.Told.{answered, refused}
 use Rattle.joining.specs.RowFacts.{fitting-parts}
 use Rattle.joining.specs.Rows.{Rows, fitting, good-pair, first-bad, bad-rows, joined}
 
 pub fitting-made : (ws fs : List ℕ) → length ws ≡ length fs → 1 ≤ length ws → length ws ≤ 16 → fitting ws fs ≡ true
 fitting-made ws fs e some few = grind (arith, tells)
-
-pub joined-lengths : {A : Type 0} (join : List ℕ → List ℕ → A) (ws fs : List ℕ) → fitting ws fs ≡ false → refused (bad-rows 0) ≡ joined join ws fs
-joined-lengths join ws fs h = sym (cond-false (fitting ws fs) _ _ h)
 
 pub joined-pair : {A : Type 0} (join : List ℕ → List ℕ → A) (ws fs : List ℕ) (p : ℕ) → fitting ws fs ≡ true → first-bad ws fs ≡ p → p < length ws → refused (bad-rows p) ≡ joined join ws fs
 joined-pair join ws fs p h e l =

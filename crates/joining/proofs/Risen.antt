@@ -1,7 +1,7 @@
 -- A rise of two answered rows, and what the laws of joinings say of it.
 use mathlib.Core.List.{List}
 use mathlib.Core.Path.{_≡_, ap, _∙_}
-use Prim.Native.Nat.{ℕ, _-_, _+_, _≤_}
+use Prim.Native.Nat.{ℕ, _-_}
 use native.Mathlib.Omega.{arith}
 use Rattle.refusal.specs.Told.{answered, and-then}
 use Rattle.joining.specs.Laws.{Lawful}

@@ -2,18 +2,14 @@
 use mathlib.Core.List.{List, [], _∷_}
 use mathlib.Core.Logic.{_⊎_, inl, inr}
 use mathlib.Core.Path.{_≡_, refl, sym, _∙_}
-use Prim.Native.Nat.{ℕ, zero, suc, _≤_, _<_, min, max, zero-le, suc-le-suc}
+use Prim.Native.Nat.{ℕ, suc, _≤_, _<_, min, max, zero-le, suc-le-suc}
 use native.Mathlib.Nat.{min-eq-left, min-eq-right, max-eq-left, max-eq-right}
 use native.Mathlib.Omega.{arith}
 use lib.ListN.{length, getD}
 use Rattle.std.specs.shelf.Lists.{folded}
 use Rattle.std.proofs.shelf.Tests.{cases-lt}
-use Rattle.joining.specs.Laws.{least, greatest, Is-least, Is-greatest}
+use Rattle.joining.specs.Laws.{least, greatest, Stands, Is-least, Is-greatest}
 use Rattle.joining.specs.Extremes.{least-below, greatest-above}
-
--- f stands somewhere in fs
-abbrev Stands : List ℕ → ℕ → Type 0
-Stands fs f = (k : ℕ) × (k < length fs) × (getD fs k 0 ≡ f)
 
 -- an operation that answers one of its two arguments
 abbrev Picks : (ℕ → ℕ → ℕ) → Type 0

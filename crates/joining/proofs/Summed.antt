@@ -1,7 +1,6 @@
--- The weighted sum of a lawful row fits 64 bits, and grows pair by pair.
+-- The weighted sum of a lawful row fits 64 bits, and its weights have a total.
 use mathlib.Core.List.{List, [], _∷_}
-use mathlib.Core.Path.{_≡_}
-use Prim.Native.Nat.{ℕ, zero, suc, _+_, _*_, _≤_, _<_, zero-le, suc-le-suc}
+use Prim.Native.Nat.{ℕ, suc, _*_, _≤_, _<_, zero-le, suc-le-suc}
 use native.Mathlib.Omega.{arith}
 use lib.ListN.{length, getD}
 use Rattle.joining.specs.Rows.{Rows}
@@ -24,7 +23,3 @@ bounds ws fs rows =
     let all = total-below ws (row .light) in
     let most = weighed-below 1000000000 ws fs (row .as-long) (row .bounded) in
     record { sum = omega arith; total = omega arith; positive = total-positive ws (row .some) (row .weighs) }
-
--- one pair more
-pub weighed-more : (ws fs us gs : List ℕ) (w f : ℕ) → ws ≡ w ∷ us → fs ≡ f ∷ gs → weighed ws fs ≡ w * f + weighed us gs
-weighed-more ws fs us gs w f d e = rw (d, e)

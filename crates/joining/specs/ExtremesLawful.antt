@@ -1,8 +1,5 @@
 -- The worst and the best keep the laws; proofs only.
-use mathlib.Core.Path.{_≡_}
-use Prim.Native.Nat.{_≤_}
 use native.Mathlib.Omega.{arith}
-use lib.ListN.{length}
 use Rattle.joining.specs.Laws.{Lawful}
 use Rattle.joining.specs.Joinings.{worst, best}
 use Rattle.joining.specs.Extremes.{least-rises, greatest-rises, least-greatest}

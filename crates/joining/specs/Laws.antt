@@ -14,14 +14,18 @@ least fs = folded min (getD fs 0 0) fs
 abbrev pub greatest : List ℕ → ℕ
 greatest fs = folded max (getD fs 0 0) fs
 
+-- a figure stands somewhere in a row
+abbrev pub Stands : List ℕ → ℕ → Type 0
+Stands fs f = (k : ℕ) × (k < length fs) × (getD fs k 0 ≡ f)
+
 -- what a least figure is: it stands in the row, and no figure is below it
 pub record Is-least (fs : List ℕ) (f : ℕ) : Type 0 where
-  pub stands : (k : ℕ) × (k < length fs) × (getD fs k 0 ≡ f)
+  pub stands : Stands fs f
   pub none-below : (k : ℕ) → k < length fs → f ≤ getD fs k 0
 
 -- what a greatest figure is: it stands in the row, and no figure is above it
 pub record Is-greatest (fs : List ℕ) (f : ℕ) : Type 0 where
-  pub stands : (k : ℕ) × (k < length fs) × (getD fs k 0 ≡ f)
+  pub stands : Stands fs f
   pub none-above : (k : ℕ) → k < length fs → getD fs k 0 ≤ f
 
 -- no figure falls from fs to gs

@@ -1,8 +1,5 @@
-use mathlib.Core.List.{[]}
-use mathlib.Core.Path.{_≡_, ap, _∙_}
-use Prim.Native.Nat.{_+_}
+use mathlib.Core.Path.{ap}
 use native.Mathlib.Omega.{arith}
-use lib.ListN.{drop, getD}
 use Rattle.std.proofs.shelf.Lists.{drop-all, drop-more}
 use Rattle.joining.specs.Joinings.{weight-total}
 use Rattle.joining.proofs.mean.weight_total.Needs as need

@@ -1,19 +1,19 @@
 use mathlib.Core.List.{[]}
 use mathlib.Core.Logic.{inl, inr}
 use mathlib.Core.Path.{_≡_, ap, _∙_}
-use Prim.Native.Nat.{_+_, _*_, _/_}
+use Prim.Native.Nat.{_/_}
 use native.Mathlib.Omega.{arith}
 use borrow.Author.Needs.{needs}
 use lib.ListN.{length}
 use Rattle.std.specs.Parts.{zip-first, zip-second, iter-rest}
 use Rattle.std.proofs.shelf.Lists.{nil-from-length}
-use Rattle.std.proofs.shelf.Pairs.{zip-more, either-empty-from-zip}
+use Rattle.std.proofs.shelf.Pairs.{either-empty-from-zip}
 use Rattle.refusal.specs.Told.{answered}
 use Rattle.joining.specs.Joinings.{mean, weighed}
 use Rattle.joining.specs.MeanLawful.{mean-lawful}
 use Rattle.joining.proofs.Bounded.{joins-bounded}
 use Rattle.joining.proofs.Checked.{lawful-answered}
-use Rattle.joining.proofs.Summed.{bounds, weighed-more}
+use Rattle.joining.proofs.Summed.{bounds}
 use Rattle.joining.proofs.mean.MeanJoining.join.Needs as need
 
 pub loop-weight-holds : need.loop-weight-holds
