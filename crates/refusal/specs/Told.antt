@@ -13,6 +13,11 @@ abbrev pub told : {A F : Type 0} → (F → Refusal) → Result A F → Told A
 told refusal (Ok answer) = answered answer
 told refusal (Err fault) = refused (refusal fault)
 
+-- the same, where of an answer only what it means is told
+abbrev pub told-as : {A B F : Type 0} → (A → B) → (F → Refusal) → Result A F → Told B
+told-as meaning refusal (Ok answer) = answered (meaning answer)
+told-as meaning refusal (Err fault) = refused (refusal fault)
+
 -- a call and then another that takes its answer; the first refusal is told
 abbrev pub and-then : {A B : Type 0} → Told A → (A → Told B) → Told B
 and-then (answered answer) next = next answer

@@ -1,6 +1,8 @@
 //! The library's worked example. One piece is stuck on a belt, and there are two ways to purge it, a careful one and
-//! a burst. The program prices both under the three joinings and prints what it finds.
+//! a burst. The program prices both under the three joinings; then it describes a tank line, bars one of its lanes,
+//! makes it dearer, and prints what it reads.
 
+mod plants;
 mod purge;
 mod shares;
 
@@ -15,6 +17,7 @@ use joining::MeanJoining;
 use joining::Worst;
 use joining::WorstJoining;
 use joining::rise;
+use plants::show_plants;
 use purge::Purge;
 use shares::thirds_rounded_up;
 use std::error::AnyError;
@@ -39,7 +42,8 @@ fn walk(rt: &LibcRuntime) -> Result<(), AnyError> {
     show_prices(rt, "burst", &burst)?;
     show_shares(rt)?;
     show_rises(rt, &careful, &[0, 5120])?;
-    show_refusal(rt)
+    show_refusal(rt)?;
+    show_plants(rt)
 }
 
 // A purge's price under each joining.

@@ -1,0 +1,15 @@
+pub mod Belts
+pub mod Laws
+pub mod Alike
+pub mod Goals
+pub mod Faults
+pub mod Ranges
+pub mod Tank
+pub mod TankKinds
+pub mod TankLawful
+pub mod Surcharges
+pub mod SurchargesRead
+pub mod SurchargesLawful
+pub mod Bars
+pub mod BarsHeld
+pub mod BarsLawful
