@@ -1,6 +1,4 @@
 -- Belts that read alike are the same.
-use mathlib.Core.Bool.{Bool}
-use mathlib.Core.List.{List}
 use mathlib.Core.Logic.{inl, inr}
 use mathlib.Core.Path.{_≡_, sym, _∙_, fun-ext}
 use Prim.Native.Nat.{ℕ, _<_}
@@ -8,9 +6,9 @@ use native.Mathlib.Omega.{arith}
 use lib.ListN.{length, getD}
 use Rattle.std.proofs.shelf.Lists.{ext-getD}
 use Rattle.std.proofs.shelf.Tests.{cases-lt}
-use Rattle.plant.specs.Belts.{Outcome, Move, Belt, no-outcome, no-move, move-count, move-at, outcome-at}
+use Rattle.plant.specs.Belts.{Outcome, Move, Belt, no-outcome, no-move, move-at, outcome-at}
 use Rattle.plant.specs.Laws.{Lawful-belt}
-use Rattle.plant.specs.Alike.{Alike, Alike-same}
+use Rattle.plant.specs.Alike.{Alike-same}
 
 pub same-move : (v w : Move) → v .cost ≡ w .cost → length (v .outcomes) ≡ length (w .outcomes) → ((o : ℕ) → o < length (v .outcomes) → getD (v .outcomes) o no-outcome ≡ getD (w .outcomes) o no-outcome) → v ≡ w
 same-move v w cost long each = λ i. record { cost = cost i; outcomes = ext-getD no-outcome (v .outcomes) (w .outcomes) long each i }

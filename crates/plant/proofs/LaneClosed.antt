@@ -7,11 +7,10 @@ use Prim.Native.Nat.{ℕ, zero, suc, _+_, _≤_, _<_}
 use native.Mathlib.Omega.{arith}
 use lib.Dec.{eqb, ltb}
 use lib.ListN.{length}
-use Rattle.std.proofs.shelf.Tests.{cases-bool, cond-true, cond-false, eq-eqb, ne-eqb, eqb-false, ltb-true, and-parts, not-true, or-right, true≢false}
-use Rattle.refusal.specs.Told.{answered, refused}
+use Rattle.std.proofs.shelf.Tests.{cases-bool, cond-true, cond-false, eq-eqb, ne-eqb, eqb-false, ltb-true, and-parts, not-true, or-right}
+use Rattle.refusal.specs.Told.{answered}
 use Rattle.plant.specs.declared.bars.Bar.{Bar}
 use Rattle.plant.specs.Belts.{Belt, Move, move-count}
-use Rattle.plant.specs.Faults.{unknown-pair, last-move, bars-full}
 use Rattle.plant.specs.Bars.{bars-it, barred, open-from, open-moves, left-of, barring, open-pair, bar-told, open-before, moved-up, without, Lane-closed}
 use Rattle.plant.proofs.BarredPairs.{barred-push, or-none}
 use Rattle.plant.proofs.OpenMoves.{left-open}

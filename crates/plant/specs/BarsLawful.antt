@@ -1,14 +1,14 @@
 -- A belt keeps the bounds whatever is barred; proofs only.
 use mathlib.Core.Bool.{Bool, true, false, cond}
 use mathlib.Core.List.{List, [], _∷_}
-use mathlib.Core.Path.{_≡_, refl, sym, ap, subst, _∙_}
-use Prim.Native.Nat.{ℕ, zero, suc, _+_, _≤_, _<_, suc-le-suc}
+use mathlib.Core.Path.{_≡_, ap}
+use Prim.Native.Nat.{ℕ, suc, _+_, _≤_}
 use native.Mathlib.Omega.{arith}
-use lib.ListN.{length, getD}
+use lib.ListN.{length}
 use Rattle.std.proofs.shelf.Elements.{all-getD, all-from-getD}
 use Rattle.std.specs.shelf.Lists.{All}
 use Rattle.plant.specs.declared.bars.Bar.{Bar}
-use Rattle.plant.specs.Belts.{Belt, Move, no-move, move-at, move-count}
+use Rattle.plant.specs.Belts.{Belt, Move, no-move, move-count}
 use Rattle.plant.specs.Laws.{Lawful-belt, Lawful-move}
 use Rattle.plant.specs.Bars.{barred, open-from, open-moves, left-of, barring}
 

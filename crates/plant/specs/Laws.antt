@@ -20,7 +20,7 @@ pub record Lawful-move (n : ℕ) (v : Move) : Type 0 where
   pub few : length (v .outcomes) ≤ 16
   pub each : (o : ℕ) → o < length (v .outcomes) → Lawful-outcome n (getD (v .outcomes) o no-outcome)
 
--- 1 to 4,096 states with the start among them; a state that is no goal has 1 to 16 moves;
+-- 1 to 4,096 states with the start among them; every state but the goals has 1 to 16 moves;
 -- goals, and numbers that are no state, have none, and such numbers are no goals
 pub record Lawful-belt (b : Belt) : Type 0 where
   pub some : 1 ≤ b .count

@@ -5,7 +5,7 @@ ghost use lib.ListN.{length};
 ghost use Rattle.plant.specs.Bars.{Closes, bar-told, barring, moved-up, open-moves, open-pair, pairs-after};
 ghost use Rattle.plant.specs.BarsHeld.{pairs};
 ghost use Rattle.plant.specs.BarsLawful.{barring-lawful};
-ghost use Rattle.plant.specs.Belts.{move-at, move-count};
+ghost use Rattle.plant.specs.Belts.{move-at};
 ghost use Rattle.plant.specs.Faults.{plant-refusal};
 ghost use Rattle.refusal.specs.Told.{told};
 use crate::bars::Bar;
@@ -32,7 +32,8 @@ impl<P: Plant> Barring<P> {
         }
     }
 
-    /// Bars one move, by its number in the plant below.
+    /// Bars one move, by its number in the plant below. It is refused, and nothing changes, where the plant below has
+    /// no such move or it is barred already, then where its state has no other move left, then where sixteen are held.
     pub fn bar(&mut self, state: u16, number: u8) -> Result<(), PlantFault>
         ensures answer { λ r. ⌜ told plant-refusal r ≡ bar-told (pairs (now (self .entry) .bars)) (P·Plant .meaning (now (self .entry) .plant)) state number ⌝ }
         ensures bars { λ r. ⌜ pairs (now (self .exit) .bars) ≡ pairs-after (told plant-refusal r) (pairs (now (self .entry) .bars)) state number ⌝ }
@@ -106,18 +107,9 @@ impl<P: Plant> Barring<P> {
         }
         if left == number { number } else { count }
     }
-
-    // How many moves a state has left: the open ones, or all where none is open.
-    fn moves(&self, state: u16) -> u8
-        ensures { λ r. ⌜ r ≡ move-count (barring (pairs (now (self .entry) .bars)) (P·Plant .meaning (now (self .entry) .plant))) state ⌝ }
-    {
-        match self.open_count(state) {
-            0 => self.plant.move_count(state),
-            open => open,
-        }
-    }
 }
 
+/// A barring reads as the plant below without the barred moves.
 pub impl<P: Plant> Plant for Barring<P> as BarringPlant {
     ghost meaning = { λ p. barring (pairs (p .bars)) (P·Plant .meaning (p .plant)) };
 
@@ -136,7 +128,10 @@ pub impl<P: Plant> Plant for Barring<P> as BarringPlant {
     }
 
     fn move_count(&self, state: u16) -> u8 {
-        self.moves(state)
+        match self.open_count(state) {
+            0 => self.plant.move_count(state),
+            open => open,
+        }
     }
 
     fn cost(&self, state: u16, number: u8) -> u16 {

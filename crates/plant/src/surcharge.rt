@@ -1,10 +1,10 @@
 //! An overlay that makes every move of a plant dearer.
 ghost use mathlib.Core.Path.{_≡_};
-ghost use Rattle.plant.specs.Faults.{plant-refusal};
 ghost use Rattle.plant.specs.Belts.{move-count};
+ghost use Rattle.plant.specs.Faults.{plant-refusal};
 ghost use Rattle.plant.specs.Surcharges.{standing, surcharge-told, surcharged};
-ghost use Rattle.plant.specs.SurchargesRead.{Raised, raised};
 ghost use Rattle.plant.specs.SurchargesLawful.{surcharged-lawful};
+ghost use Rattle.plant.specs.SurchargesRead.{Raised, raised};
 ghost use Rattle.refusal.specs.Told.{and-then, answered, told};
 use crate::fault::PlantFault;
 use crate::plant::GREATEST_COST;
@@ -29,7 +29,7 @@ impl<P: Plant> Surcharge<P> {
         Surcharge { plant, extra: 0 }
     }
 
-    /// Makes the surcharge 0 to 999 units, in the place of the one before.
+    /// Puts a surcharge of 0 to 999 units in the place of the one before. Any other is refused, and nothing changes.
     pub fn charge(&mut self, extra: u64) -> Result<(), PlantFault>
         ensures answer { λ r. ⌜ told plant-refusal r ≡ and-then (surcharge-told extra) (λ _. answered tt) ⌝ }
         ensures extra { λ _. ⌜ now (self .exit) .extra ≡ standing (surcharge-told extra) (now (self .entry) .extra) ⌝ }
@@ -64,6 +64,7 @@ impl<P: Plant> Surcharge<P> {
     }
 }
 
+/// A surcharge reads as the plant below, each cost raised.
 pub impl<P: Plant> Plant for Surcharge<P> as SurchargePlant {
     ghost meaning = { λ p. surcharged (p .extra) (P·Plant .meaning (p .plant)) };
 

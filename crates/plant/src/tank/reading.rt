@@ -1,6 +1,5 @@
 //! A tank line is a plant.
 ghost use mathlib.Core.Path.{_≡_};
-ghost use Rattle.plant.specs.Belts.{move-count};
 ghost use Rattle.plant.specs.Tank.{most-jets, tank-line};
 ghost use Rattle.plant.specs.TankKinds.{Found-move, Found-outcome};
 ghost use Rattle.plant.specs.TankLawful.{tank-lawful};
@@ -12,22 +11,11 @@ use crate::tank::line::TankLine;
 use crate::tank::weights::stored_weight;
 
 impl TankLine {
-    // How many moves a state has: a rest, and then 1 jet up to the most.
-    fn moves(&self, state: u16) -> u8
-        ensures { λ r. ⌜ r ≡ move-count (tank-line (now (self .entry) .pieces) (now (self .entry) .levels) (now (self .entry) .rest) (now (self .entry) .jet)) state ⌝ }
-    {
-        let pieces = self.pieces_at(state);
-        if pieces < 1 || pieces > self.pieces {
-            return 0;
-        }
-        most_jets(pieces, self.level_at(state)) + 1
-    }
-
     // The move at a number of a state.
     fn move_at(&self, state: u16, number: u8) -> TankMove
         ensures { λ r. ⌜ Found-move (now (self .entry) .pieces) (now (self .entry) .levels) (now (self .entry) .rest) (now (self .entry) .jet) state number r ⌝ }
     {
-        if number >= self.moves(state) {
+        if number >= self.move_count(state) {
             TankMove::NoMove
         } else if number == 0 {
             TankMove::Rest
@@ -57,6 +45,7 @@ fn most_jets(pieces: u16, level: u16) -> u8
     pieces.min(level).min(MOST_JETS) as u8
 }
 
+/// A tank line reads by the pieces and the level of each state.
 pub impl Plant for TankLine as TankLinePlant {
     ghost meaning = { λ t. tank-line (t .pieces) (t .levels) (t .rest) (t .jet) };
 
@@ -75,7 +64,11 @@ pub impl Plant for TankLine as TankLinePlant {
     }
 
     fn move_count(&self, state: u16) -> u8 {
-        self.moves(state)
+        let pieces = self.pieces_at(state);
+        if pieces < 1 || pieces > self.pieces {
+            return 0;
+        }
+        most_jets(pieces, self.level_at(state)) + 1
     }
 
     fn cost(&self, state: u16, number: u8) -> u16 {

@@ -2,7 +2,7 @@ use mathlib.Core.Bool.{false}
 use mathlib.Core.Path.{_≡_, sym, ap, _∙_, subst}
 use Prim.Native.Nat.{ℕ, _+_, _<_}
 use native.Mathlib.Omega.{arith}
-use lib.ListN.{length, getD}
+use lib.ListN.{getD}
 use Rattle.plant.specs.Belts.{no-move}
 use Rattle.plant.specs.Bars.{barred}
 use Rattle.plant.specs.BarsHeld.{pairs}

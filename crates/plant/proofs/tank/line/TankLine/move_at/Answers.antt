@@ -2,8 +2,8 @@ use native.Mathlib.Omega.{arith}
 use Rattle.plant.proofs.TankFound.{found-none, found-jets}
 use Rattle.plant.proofs.tank.line.TankLine.move_at.Needs as need
 
-pub returns-then-number-moves : need.returns-then-number-moves
-returns-then-number-moves c =
+pub returns-then-number-move-count : need.returns-then-number-move-count
+returns-then-number-move-count c =
     let t = c .args .self .now in
     found-none (t .pieces) (t .levels) (t .rest) (t .jet) (c .args .state) (c .args .number) (omega arith)
 

@@ -3,7 +3,7 @@ use mathlib.Core.Path.{sym, subst}
 use Prim.Native.Nat.{ℕ}
 use native.Mathlib.Omega.{arith}
 use Rattle.plant.specs.Tank.{Laid-out}
-use Rattle.plant.specs.TankLawful.{laid-out}
+use Rattle.plant.proofs.TankFound.{laid-out}
 use Rattle.plant.proofs.tank.line.TankLine.state_at.Needs as need
 
 pub returns : need.returns

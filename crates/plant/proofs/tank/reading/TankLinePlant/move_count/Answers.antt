@@ -4,7 +4,7 @@ use Prim.Native.Nat.{_+_, _/_}
 use native.Mathlib.Omega.{arith}
 use Rattle.plant.specs.Tank.{stuck}
 use Rattle.plant.specs.TankLawful.{count-stuck, stuck-true}
-use Rattle.plant.proofs.tank.line.TankLine.moves.Needs as need
+use Rattle.plant.proofs.tank.reading.TankLinePlant.move_count.Needs as need
 
 pub returns : need.returns
 returns c =
