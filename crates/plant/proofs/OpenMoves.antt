@@ -10,6 +10,10 @@ use Rattle.std.proofs.shelf.Tests.{cond-true, cond-false}
 use Rattle.plant.specs.Belts.{Move, no-move}
 use Rattle.plant.specs.Bars.{open-from, left-of}
 
+-- the flag that was read for number k says whether it is shut
+pub flagged : (flags : List Bool) (shut : ℕ → Bool) → ((k : ℕ) → k < 16 → getD flags k false ≡ shut k) → (i k : ℕ) → i ≡ k → k < 16 → (t : Bool) → getD flags i false ≡ t → shut k ≡ t
+flagged flags shut all i k e few t read = sym (all k few) ∙ ap (λ j. getD flags j false) (sym e) ∙ read
+
 -- the open ones among the moves from number k on
 abbrev pub open-past : (ℕ → Bool) → List Move → ℕ → List Move
 open-past shut vs k = open-from shut k (drop k vs)

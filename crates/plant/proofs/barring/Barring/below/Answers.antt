@@ -1,12 +1,12 @@
-use mathlib.Core.Bool.{false}
-use mathlib.Core.Path.{_≡_, sym, ap, _∙_, subst}
+use mathlib.Core.Bool.{true, false}
+use mathlib.Core.Path.{sym, ap, _∙_, subst}
 use Prim.Native.Nat.{ℕ, _+_, _<_}
 use native.Mathlib.Omega.{arith}
 use lib.ListN.{getD}
 use Rattle.plant.specs.Belts.{no-move}
 use Rattle.plant.specs.Bars.{barred}
 use Rattle.plant.specs.BarsHeld.{pairs}
-use Rattle.plant.proofs.OpenMoves.{Walked, walk-shut, walk-open, walk-found, walk-none, walk-past}
+use Rattle.plant.proofs.OpenMoves.{flagged, Walked, walk-shut, walk-open, walk-found, walk-none, walk-past}
 use Rattle.plant.proofs.barring.Barring.below.Needs as need
 use Rattle.plant.proofs.barring.Barring.below.Needs.{then-not-shut-from·else-left-eq0, else-not-shut-from}
 
@@ -19,9 +19,10 @@ returns-then-left-eq0 g c =
     let s = c .args .state in
     let shut = barred (pairs (p .bars)) s in
     let vs = g .P·Plant .meaning (p .plant) .moves s in
-    let few : c .from .result < 16 = omega (arith, g .P·Plant .lawful (p .plant) .moves-few s) in
-    let read : getD (c .shut-in-shut .result) (c .from .result) false ≡ shut (c .loop-below .below) = c .shut-in-shut .ensures (c .from .result) few ∙ ap shut (c .from .ensures) in
-    walk-found shut vs (c .loop-below .below) (c .loop-below .left) (c .args .number) (c .loop-below .inv) (omega arith) (sym read ∙ c .if-not-shut-from .taken) (c .if-left-eq0 .taken)
+    let k = c .loop-below .below in
+    let few : k < 16 = omega (arith, g .P·Plant .lawful (p .plant) .moves-few s) in
+    let flag = flagged (c .shut-in-shut .result) shut (c .shut-in-shut .ensures) (c .from .result) k (c .from .ensures) few in
+    walk-found shut vs k (c .loop-below .left) (c .args .number) (c .loop-below .inv) (omega arith) (flag false (c .if-not-shut-from .taken)) (c .if-left-eq0 .taken)
 
 pub loop-below-again : need.loop-below-again
 loop-below-again g c =
@@ -30,15 +31,15 @@ loop-below-again g c =
     let shut = barred (pairs (p .bars)) s in
     let vs = g .P·Plant .meaning (p .plant) .moves s in
     let k = c .loop-below .below in
-    let few : c .from .result < 16 = omega (arith, g .P·Plant .lawful (p .plant) .moves-few s) in
-    let read : getD (c .shut-in-shut .result) (c .from .result) false ≡ shut k = c .shut-in-shut .ensures (c .from .result) few ∙ ap shut (c .from .ensures) in
+    let few : k < 16 = omega (arith, g .P·Plant .lawful (p .plant) .moves-few s) in
+    let flag = flagged (c .shut-in-shut .result) shut (c .shut-in-shut .ensures) (c .from .result) k (c .from .ensures) few in
     elim (c .if-not-shut-from .came) [
       | then-not-shut-from·else-left-eq0 w ↦
           subst (λ (i : ℕ). Walked shut vs (k + 1) i (c .args .number)) (sym (w .left-is))
-          (walk-open shut vs k (c .loop-below .left) (c .args .number) (c .loop-below .inv) (omega arith) (sym read ∙ w .if-not-shut-from .taken) (omega (arith, w .if-left-eq0 .left)))
+          (walk-open shut vs k (c .loop-below .left) (c .args .number) (c .loop-below .inv) (omega arith) (flag false (w .if-not-shut-from .taken)) (omega (arith, w .if-left-eq0 .left)))
       | else-not-shut-from w ↦
           subst (λ (i : ℕ). Walked shut vs (k + 1) i (c .args .number)) (sym (w .left-is))
-          (walk-shut shut vs k (c .loop-below .left) (c .args .number) (c .loop-below .inv) (omega arith) (sym read ∙ w .if-not-shut-from .left))
+          (walk-shut shut vs k (c .loop-below .left) (c .args .number) (c .loop-below .inv) (omega arith) (flag true (w .if-not-shut-from .left)))
     ]
 
 pub returns-then-left-number : need.returns-then-left-number

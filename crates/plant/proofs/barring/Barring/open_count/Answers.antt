@@ -1,11 +1,11 @@
-use mathlib.Core.Bool.{false}
-use mathlib.Core.Path.{_≡_, sym, ap, _∙_}
+use mathlib.Core.Bool.{true, false}
+use mathlib.Core.Path.{ap}
 use Prim.Native.Nat.{_<_}
 use native.Mathlib.Omega.{arith}
-use lib.ListN.{length, getD}
+use lib.ListN.{length}
 use Rattle.plant.specs.Bars.{barred}
 use Rattle.plant.specs.BarsHeld.{pairs}
-use Rattle.plant.proofs.OpenMoves.{open-shut, open-found, open-end}
+use Rattle.plant.proofs.OpenMoves.{flagged, open-shut, open-found, open-end}
 use Rattle.plant.proofs.barring.Barring.open_count.Needs as need
 use Rattle.plant.proofs.barring.Barring.open_count.Needs.{then-not-shut-from, else-not-shut-from}
 
@@ -20,11 +20,11 @@ loop-number-again g c =
     let vs = g .P·Plant .meaning (p .plant) .moves s in
     let n = c .loop-number .number in
     let inside : n < length vs = omega arith in
-    let few : c .from .result < 16 = omega (arith, g .P·Plant .lawful (p .plant) .moves-few s) in
-    let read : getD (c .shut-in-shut .result) (c .from .result) false ≡ shut n = c .shut-in-shut .ensures (c .from .result) few ∙ ap shut (c .from .ensures) in
+    let few : n < 16 = omega (arith, g .P·Plant .lawful (p .plant) .moves-few s) in
+    let flag = flagged (c .shut-in-shut .result) shut (c .shut-in-shut .ensures) (c .from .result) n (c .from .ensures) few in
     elim (c .if-not-shut-from .came) [
-      | then-not-shut-from w ↦ (let step = ap length (open-found shut vs n inside (sym read ∙ w .if-not-shut-from .taken)) in (omega (arith, w .open-is), omega (arith, w .open-is)))
-      | else-not-shut-from w ↦ (let step = ap length (open-shut shut vs n inside (sym read ∙ w .if-not-shut-from .left)) in (omega (arith, w .open-is), omega (arith, w .open-is)))
+      | then-not-shut-from w ↦ (let step = ap length (open-found shut vs n inside (flag false (w .if-not-shut-from .taken))) in (omega (arith, w .open-is), omega (arith, w .open-is)))
+      | else-not-shut-from w ↦ (let step = ap length (open-shut shut vs n inside (flag true (w .if-not-shut-from .left))) in (omega (arith, w .open-is), omega (arith, w .open-is)))
     ]
 
 pub returns : need.returns
