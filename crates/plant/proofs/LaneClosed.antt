@@ -7,7 +7,7 @@ use Prim.Native.Nat.{ℕ, zero, suc, _+_, _≤_, _<_}
 use native.Mathlib.Omega.{arith}
 use lib.Dec.{eqb, ltb}
 use lib.ListN.{length}
-use Rattle.std.proofs.shelf.Tests.{cases-bool, cond-true, cond-false, eq-eqb, ne-eqb, eqb-false, ltb-true, and-parts, not-true, or-right}
+use Rattle.std.proofs.shelf.Tests.{cases-bool, cond-true, cond-false, eq-eqb, ne-eqb, ltb-true, and-parts, not-true, or-right}
 use Rattle.refusal.specs.Told.{answered}
 use Rattle.plant.specs.declared.bars.Bar.{Bar}
 use Rattle.plant.specs.Belts.{Belt, Move, move-count}
@@ -20,26 +20,21 @@ pub record Taken (xs : List Bar) (b : Belt) (s k : ℕ) : Type 0 where
   pub inside : k < move-count b s
   pub unbarred : barred xs s k ≡ false
   pub several : length (open-moves xs b s) ≡ 1 → ⊥
-  pub room : length xs ≡ 16 → ⊥
 
 pub taken : (xs : List Bar) (b : Belt) (s k : ℕ) → answered tt ≡ bar-told xs b s k → Taken xs b s k
 taken xs b s k told =
     elim (cases-bool (open-pair xs b s k)) [
-      | inl open′ ↦ elim (cases-bool (eqb (length (open-moves xs b s)) 1)) [
-        | inl last ↦ absurd (let z = told ∙ cond-true (open-pair xs b s k) _ _ open′ ∙ cond-true (eqb (length (open-moves xs b s)) 1) _ _ last in let q : _≡_ {A = ℕ} 0 1 = cc in let w : ⊥ = omega arith in w)
-        | inr more ↦ elim (cases-bool (eqb (length xs) 16)) [
-          | inl full ↦ absurd (let z = told ∙ cond-true (open-pair xs b s k) _ _ open′ ∙ cond-false (eqb (length (open-moves xs b s)) 1) _ _ more ∙ cond-true (eqb (length xs) 16) _ _ full in let q : _≡_ {A = ℕ} 0 1 = cc in let w : ⊥ = omega arith in w)
-          | inr room ↦
-              let parts = and-parts (ltb k (move-count b s)) (not (barred xs s k)) open′ in
-              record {
-                inside = ltb-true k (move-count b s) (parts .0);
-                unbarred = not-true (barred xs s k) (parts .1);
-                several = eqb-false (length (open-moves xs b s)) 1 more;
-                room = eqb-false (length xs) 16 room;
-              }
-        ]
-      ]
-      | inr shut ↦ absurd (let z = told ∙ cond-false (open-pair xs b s k) _ _ shut in let q : _≡_ {A = ℕ} 0 1 = cc in let w : ⊥ = omega arith in w)
+      | inl open′ ↦ (
+          let parts = and-parts (ltb k (move-count b s)) (not (barred xs s k)) open′ in
+          record {
+            inside = ltb-true k (move-count b s) (parts .0);
+            unbarred = not-true (barred xs s k) (parts .1);
+            several = λ one.
+                let last = told ∙ cond-true (open-pair xs b s k) _ _ open′ ∙ cond-true (eqb (length (open-moves xs b s)) 1) _ _ (eq-eqb (length (open-moves xs b s)) 1 one) in
+                let q : _≡_ {A = ℕ} 0 1 = cc in
+                omega arith;
+          })
+      | inr shut ↦ absurd (let unknown = told ∙ cond-false (open-pair xs b s k) _ _ shut in let q : _≡_ {A = ℕ} 0 1 = cc in let w : ⊥ = omega arith in w)
     ]
 
 open-same : (a b : ℕ → Bool) (i : ℕ) (vs : List Move) → ((n : ℕ) → i ≤ n → a n ≡ b n) → open-from a i vs ≡ open-from b i vs

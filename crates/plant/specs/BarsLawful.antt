@@ -36,15 +36,15 @@ left-few : (xs all : List Move) → length xs ≤ length all → length (left-of
 left-few [] all h = omega arith
 left-few (x ∷ xs) all h = h
 
-left-all : (P : Move → Type 0) (xs all : List Move) → All P xs → All P all → All P (left-of xs all)
-left-all P [] all a b = b
-left-all P (x ∷ xs) all a b = a
+left-keeps : (P : Move → Type 0) (xs all : List Move) → All P xs → All P all → All P (left-of xs all)
+left-keeps P [] all a b = b
+left-keeps P (x ∷ xs) all a b = a
 
 module _ (xs : List Bar) (b : Belt) where
   none-left : (s : ℕ) → b .moves s ≡ [] → barring xs b .moves s ≡ []
   none-left s e = ap (λ (vs : List Move). left-of (open-from (barred xs s) 0 vs) vs) e
 
-  pub left-count : (s : ℕ) → move-count (barring xs b) s ≤ move-count b s
+  left-count : (s : ℕ) → move-count (barring xs b) s ≤ move-count b s
   left-count s = left-few (open-moves xs b s) (b .moves s) (open-few (barred xs s) 0 (b .moves s))
 
   pub barring-lawful : Lawful-belt b → Lawful-belt (barring xs b)
@@ -57,7 +57,7 @@ module _ (xs : List Bar) (b : Belt) where
     each = λ s m h.
         let all = all-from-getD (Lawful-move (b .count)) (b .moves s) no-move (laws .each s) in
         all-getD (Lawful-move (b .count)) (barring xs b .moves s) m no-move h
-        (left-all (Lawful-move (b .count)) (open-moves xs b s) (b .moves s) (open-all (Lawful-move (b .count)) (barred xs s) 0 (b .moves s) all) all);
+        (left-keeps (Lawful-move (b .count)) (open-moves xs b s) (b .moves s) (open-all (Lawful-move (b .count)) (barred xs s) 0 (b .moves s) all) all);
     no-goal-outside = laws .no-goal-outside;
     still-outside = λ s h. none-left s (laws .still-outside s h);
     still-at-goals = λ s h. none-left s (laws .still-at-goals s h);
