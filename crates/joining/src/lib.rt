@@ -3,6 +3,8 @@
 //! A joining is handed two rows, weights and figures, with one place for each outcome, and answers one figure. (The
 //! field calls it the backup of a move, and a figure a value.) [`Mean`], [`Worst`] and [`Best`] are three of them.
 
+#![tactic(auto)]
+
 mod best;
 mod fault;
 mod joining;

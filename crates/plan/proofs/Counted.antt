@@ -1,5 +1,5 @@
 -- How many records are used behind a row of forms, and when all of them find a place.
-use Rattle.std.proofs.Common.{◌≡◌, ℕ, ◌+◌, ◌<◌, ◌≤◌, List, [], ◌∷◌, ◌++◌, length, refl, arith, length_append}
+use Rattle.std.proofs.Common.{◌≡◌, ℕ, ◌+◌, ◌<◌, ◌≤◌, List, [], ◌∷◌, ◌++◌, length, refl, arith, length-append}
 use Rattle.plant.specs.Belts.{Move, Outcome}
 use Rattle.plan.specs.declared.counts.Counts.{Counts}
 use Rattle.plan.specs.Forms.{grow_all, grow_move, grow_outcome}
@@ -16,7 +16,7 @@ moves_counted u [] = (omega arith, omega arith)
 moves_counted u (m ∷ ms) =
     let e = moves_counted (grow_move u m) ms in
     let f = outcomes_counted u m.outcomes in
-    let g = length_append m.outcomes (all_outcomes ms) in
+    let g = length-append m.outcomes (all_outcomes ms) in
     (omega (arith, e.0), omega (arith, e.1))
 
 -- the outcomes of two rows of moves
@@ -24,8 +24,8 @@ pub outcomes_of_both : (ls ms : List Move) → length (all_outcomes (ls ++ ms)) 
 outcomes_of_both [] ms = omega arith
 outcomes_of_both (l ∷ ls) ms =
     let e = outcomes_of_both ls ms in
-    let f = length_append l.outcomes (all_outcomes (ls ++ ms)) in
-    let g = length_append l.outcomes (all_outcomes ls) in
+    let f = length-append l.outcomes (all_outcomes (ls ++ ms)) in
+    let g = length-append l.outcomes (all_outcomes ls) in
     omega arith
 
 module _ (room : Counts) where
@@ -44,7 +44,7 @@ module _ (room : Counts) where
       let here : u.moves < room.moves = fit.0.0 in
       let x = outcomes_fit u m.outcomes b fit.0.1 in
       let f = outcomes_counted u m.outcomes in
-      let g = length_append m.outcomes (all_outcomes ms) in
+      let g = length-append m.outcomes (all_outcomes ms) in
       let more = moves_fit (grow_move u m) ms (omega arith) (omega arith) fit.1 in
       (omega (arith, more.0), omega (arith, more.1))
 
@@ -52,7 +52,7 @@ module _ (room : Counts) where
   moves_each u [] a b = tt
   moves_each u (m ∷ ms) a b =
       let f = outcomes_counted u m.outcomes in
-      let g = length_append m.outcomes (all_outcomes ms) in
+      let g = length-append m.outcomes (all_outcomes ms) in
       ((omega arith, outcomes_each u m.outcomes (omega arith)), moves_each (grow_move u m) ms (omega arith) (omega arith))
 
   lines_fit : (u : Counts) (ls : List (List Move)) → u.states ≤ room.states → u.moves ≤ room.moves → u.outcomes ≤ room.outcomes → EachFits (LineFits room) grow_line u ls
@@ -62,7 +62,7 @@ module _ (room : Counts) where
       let here : u.states < room.states = fit.0.0 in
       let x = moves_fit u l a b fit.0.1 in
       let c = moves_counted u l in
-      let f = length_append l (all_moves ls) in
+      let f = length-append l (all_moves ls) in
       let g = outcomes_of_both l (all_moves ls) in
       let more = lines_fit (grow_line u l) ls (omega arith) (omega (arith, x.0, c.0)) (omega (arith, x.1, c.1)) fit.1 in
       (omega (arith, more.0), omega (arith, more.1, c.0), omega (arith, more.2, c.1))
@@ -72,7 +72,7 @@ module _ (room : Counts) where
   lines_each u [] s a b = tt
   lines_each u (l ∷ ls) s a b =
       let c = moves_counted u l in
-      let f = length_append l (all_moves ls) in
+      let f = length-append l (all_moves ls) in
       let g = outcomes_of_both l (all_moves ls) in
       ((omega arith, moves_each u l (omega arith) (omega arith)), lines_each (grow_line u l) ls (omega arith) (omega (arith, c.0)) (omega (arith, c.1)))
 

@@ -1,5 +1,5 @@
 -- The word that opens a line.
-use Rattle.std.proofs.Common.{◌≡◌, ℕ, ◌+◌, ◌-◌, ◌≤◌, false, List, [], ◌∷◌, ◌++◌, length, get_or, take, drop, codes, sym, refl, ap, ◌∙◌, ⊎_elim, arith, length_append, length-drop}
+use Rattle.std.proofs.Common.{◌≡◌, ℕ, ◌+◌, ◌-◌, ◌≤◌, false, List, [], ◌∷◌, ◌++◌, length, get_or, take, drop, codes, sym, refl, ap, ◌∙◌, ⊎_elim, arith, length-append, length-drop}
 use Rattle.std.proofs.lemmas.List.{take_rest}
 use Rattle.std.proofs.lemmas.Bool.{cases_Bool, cond-true, cond-false}
 use Rattle.refusal.specs.Told.{answered, refused}
@@ -41,7 +41,7 @@ word_long text at (w ∷ ws) next e =
 place_after : (text : List ℕ) (at : ℕ) (ws rest : List ℕ) (next : ℕ) → at ≤ length text → drop at text ≡ ws ++ rest → word_at text at ws ≡ answered next → length text - length rest ≡ next
 place_after text at ws rest next inside e f =
     let k = word_long text at ws next f in
-    let long : length text - at ≡ length ws + length rest = sym (length-drop at text) ∙ ap length e ∙ length_append ws rest in
+    let long : length text - at ≡ length ws + length rest = sym (length-drop at text) ∙ ap length e ∙ length-append ws rest in
     omega arith
 
 pub opening_stands : (text : List ℕ) (at : ℕ) (w : Opening) (rest : List ℕ) → at ≤ length text → drop at text ≡ opening_word w ++ rest → answered (record { word = w; next = length text - length rest }) ≡ opening_at text at

@@ -1,5 +1,5 @@
 -- Where the records of a plan stand once they are written.
-use Rattle.std.proofs.Common.{◌≡◌, ℕ, suc, ◌+◌, ◌≤◌, List, [], ◌∷◌, ◌++◌, map, length, take, drop, set, sym, refl, ap, ◌∙◌, append_assoc, zero-add, add-one, arith, length_append}
+use Rattle.std.proofs.Common.{◌≡◌, ℕ, suc, ◌+◌, ◌≤◌, List, [], ◌∷◌, ◌++◌, map, length, take, drop, set, sym, refl, ap, ◌∙◌, append_assoc, zero-add, add-one, arith, length-append}
 use lib.Seq.{sets, sets-eq}
 use Rattle.std.proofs.lemmas.List.{length-map}
 use Rattle.plant.specs.Belts.{Move, Outcome}
@@ -61,7 +61,7 @@ pub records_both : (first : ℕ) (ls ms : List Move) → move_records first (ls 
 records_both first [] ms = ap (λ (k : ℕ). move_records k ms) (omega arith)
 records_both first (l ∷ ls) ms =
     let one : MoveRecord = record { cost = l.cost; first = first; end = first + length l.outcomes } in
-    let e : first + length l.outcomes + length (all_outcomes ls) ≡ first + length (all_outcomes (l ∷ ls)) = let f = length_append l.outcomes (all_outcomes ls) in omega arith in
+    let e : first + length l.outcomes + length (all_outcomes ls) ≡ first + length (all_outcomes (l ∷ ls)) = let f = length-append l.outcomes (all_outcomes ls) in omega arith in
     ap (λ x. one ∷ x) (records_both (first + length l.outcomes) ls ms ∙ ap (λ (k : ℕ). move_records (first + length l.outcomes) ls ++ move_records k ms) e)
 
 pub outcomes_both : (ls ms : List Move) → all_outcomes (ls ++ ms) ≡ all_outcomes ls ++ all_outcomes ms

@@ -2,6 +2,8 @@
 //!
 //! [`check_plan`] only checks a text. [`fill`] checks it whole and then writes its records into three tables.
 
+#![tactic(auto)]
+
 mod check;
 mod counts;
 mod fault;

@@ -3,6 +3,8 @@
 //! [`Plant`] is the interface, and [`TankLine`] a plant of this library. [`Surcharge`] and [`Barring`] stand over any
 //! plant and change how it reads. [`alike`] tells whether two plants are the same.
 
+#![tactic(auto)]
+
 mod barring;
 mod bars;
 mod compare;

@@ -1,5 +1,7 @@
 //! The shape that every refusal of the planner has: a number, the layer that says no, and a place.
 
+#![tactic(auto)]
+
 mod fault;
 mod layer;
 mod refusal;

@@ -1,5 +1,5 @@
 -- The tables after a load are read as the belt that the plan stands for.
-use Rattle.std.proofs.Common.{◌≡◌, ℕ, zero, suc, ◌+◌, ◌-◌, ◌<◌, ◌≤◌, Bool, ◌&&◌, eqb, ltb, List, [], ◌∷◌, ◌++◌, map, length, get_or, drop, sym, refl, ap, ◌∙◌, subst, inl, inr, append_assoc, arith, length_append, get_or-append-add}
+use Rattle.std.proofs.Common.{◌≡◌, ℕ, zero, suc, ◌+◌, ◌-◌, ◌<◌, ◌≤◌, Bool, ◌&&◌, eqb, ltb, List, [], ◌∷◌, ◌++◌, map, length, get_or, drop, sym, refl, ap, ◌∙◌, subst, inl, inr, append_assoc, arith, length-append, get_or-append-add}
 use mathlib.Core.Path.{fun_ext}
 use Rattle.std.specs.List.{range_with_len}
 use Rattle.std.proofs.lemmas.List.FromFn.{fill_by_all}
@@ -34,7 +34,7 @@ stands_back tab u xs ys h = (
   h.0 ++ xs,
   h.1,
   h.2 ∙ ap (λ l. h.0 ++ l) (append_assoc xs ys h.1) ∙ sym (append_assoc h.0 xs (ys ++ h.1)),
-  length_append h.0 xs ∙ ap (λ (k : ℕ). k + length xs) h.3,
+  length-append h.0 xs ∙ ap (λ (k : ℕ). k + length xs) h.3,
 )
 
 stands_at : {A : Type 0} (tab : List A) (u : ℕ) (xs : List A) → Stands tab u xs → (k : ℕ) (d : A) → k < length xs → get_or tab (u + k) d ≡ get_or xs k d

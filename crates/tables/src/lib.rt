@@ -3,6 +3,8 @@
 //! [`load`] answers the count and the start of a plan. From these and the tables [`TablePlant`] is made, which reads the
 //! records where they stand and is a plant whatever they hold.
 
+#![tactic(auto)]
+
 mod loading;
 mod made;
 mod places;

@@ -2,6 +2,8 @@
 //!
 //! Everything is read at a place of the text, and answers with the place after it, so that a fault can say where it is.
 
+#![tactic(auto)]
+
 mod fault;
 mod marks;
 mod numbers;

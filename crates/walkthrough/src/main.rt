@@ -2,6 +2,8 @@
 //! a burst. The program prices both under the three joinings; then it describes a tank line, bars one of its lanes,
 //! makes it dearer, and prints what it reads.
 
+#![tactic(auto)]
+
 mod plants;
 mod purge;
 mod shares;

@@ -8,7 +8,7 @@ loop-weight-preserved c =
     let ws = c.args.weights.now in
     let i = c.loop-weight.weight-index in
     let more = ap weight_total (drop_more ws i 0 c.loop-weight-test.true) in
-    (omega (arith, c.loop-weight.invariant), omega (arith, c.loop-weight.invariant, c.type-inv.weights i))
+    (omega (arith, c.loop-weight.invariant), omega (arith, c.loop-weight.invariant, c.type_inv.weights i))
 
 pub returns : goal.returns
 returns c =

@@ -5,9 +5,9 @@ pub returns : goal.returns
 returns g c =
     let join = g.J.Joining.meaning c.args.joining.now in
     let laws = g.J.Joining.lawful c.args.joining.now in
-    let before = c.in-ok-low.ensures.answer in
-    let after = c.in-ok-high.ensures.answer in
+    let before = c.in_ok-low.ensures.answer in
+    let after = c.in_ok-high.ensures.answer in
     record {
-      answer = risen_both join c.args.weights.now c.args.before.now c.args.after.now c.in-ok-low.low c.in-ok-high.high c.saturating-sub.result before after c.saturating-sub.ensures;
-      laws = rise_lawful join c.args.weights.now c.args.before.now c.args.after.now c.in-ok-low.low c.in-ok-high.high c.saturating-sub.result laws before after c.saturating-sub.ensures;
+      answer = risen_both join c.args.weights.now c.args.before.now c.args.after.now c.in_ok-low.low c.in_ok-high.high c.saturating_sub.result before after c.saturating_sub.ensures;
+      laws = rise_lawful join c.args.weights.now c.args.before.now c.args.after.now c.in_ok-low.low c.in_ok-high.high c.saturating_sub.result laws before after c.saturating_sub.ensures;
     }

@@ -7,6 +7,6 @@ returns c =
       rows = worked;
       shut_out = shut_out;
       answers =
-          four_answers _ _ _ _ 5 100 9 2 (same_ok _ 5 c.in-ok-fraction.ensures) (same_ok _ 100 c.in-ok-shares.ensures)
-          (same_ok _ 9 c.in-ok-greatest.ensures) (same_ok _ 2 c.in-ok-least.ensures);
+          four_answers _ _ _ _ 5 100 9 2 (same_ok _ 5 c.in_ok-fraction.ensures) (same_ok _ 100 c.in_ok-shares.ensures)
+          (same_ok _ 9 c.in_ok-greatest.ensures) (same_ok _ 2 c.in_ok-least.ensures);
     }

@@ -6,6 +6,6 @@ use Rattle.plan.proofs.check.fill.Goals as goal
 pub returns : goal.returns
 returns c = record {
   answer = walk_told (read_plan c.args.text.now (room_of (held c.args.tables.now))) _ _ _ c.walk.ensures.left;
-  held = walk_writes c.args.text.now (held c.args.tables.now) (held c.walk.new.tables) _ c.in-ok-check-plan.field-0 c.in-ok-check-plan.ensures.answer c.walk.ensures.left;
+  held = walk_writes c.args.text.now (held c.args.tables.now) (held c.walk.new.tables) _ c.in_ok-check_plan.field-0 c.in_ok-check_plan.ensures.answer c.walk.ensures.left;
   same = c.walk.ensures.same;
 }

@@ -10,7 +10,7 @@ loop-next-preserved c =
     let i = c.loop-next.next in
     let v = c.loop-next.invariant.0 in
     let d = digit_marked (get_or bs i 0) c.in-Digit.digit c.in-Digit.ensures.means in
-    let sum : c.saturating-add-value.result ≡ saturated (v * 10 + c.in-Digit.digit) = omega (arith, saturated_more v c.in-Digit.digit _ c.loop-next.invariant.1) in (
+    let sum : c.saturating_add-value.result ≡ saturated (v * 10 + c.in-Digit.digit) = omega (arith, saturated_more v c.in-Digit.digit _ c.loop-next.invariant.1) in (
       v * 10 + (get_or bs i 0 - 48),
       sum ∙ ap (λ (x : ℕ). saturated (v * 10 + x)) d.1,
       sym (numeral_digit v bs i c.loop-next-test.true d.0) ∙ c.loop-next.invariant.2,
@@ -30,7 +30,7 @@ returns-after-loop-next c =
     let past = drop_past c.args.text.now c.loop-next.next c.loop-next-test.false in
     done _ _ _ _ c.loop-next.invariant (ap (numeral c.loop-next.invariant.0) past) (ap run past)
 
-pub returns-in-default : goal.returns-in-default
-returns-in-default c =
-    let none = no_digit_marked (get_or c.args.text.now c.loop-next.next 0) c.mark-of.result c.mark-of.ensures.means c.in-default.not-Digit in
+pub returns-in_default : goal.returns-in_default
+returns-in_default c =
+    let none = no_digit_marked (get_or c.args.text.now c.loop-next.next 0) c.mark_of.result c.mark_of.ensures.means c.in_default.not-Digit in
     done _ _ _ _ c.loop-next.invariant (numeral_stop _ _ _ c.loop-next-test.true none) (run_stop _ _ c.loop-next-test.true none)

@@ -13,8 +13,8 @@ use Rattle.joining.proofs.mean.MeanJoining.join.Goals as goal
 
 pub loop-weight-init : goal.loop-weight-init
 loop-weight-init c =
-    let row = bounds c.args.weights.now c.args.figures.now c.in-ok-check-rows.ensures.means in
-    let total = c.weight-total-all.ensures in
+    let row = bounds c.args.weights.now c.args.figures.now c.in_ok-check_rows.ensures.means in
+    let total = c.weight_total-all.ensures in
     search rules
 
 -- after the last turn no weight is left, so the sum is whole
@@ -29,15 +29,15 @@ summed c =
     let none = ap (λ xs. weighed xs (iter_rest (zip_second c.loop-weight.weight-iterator))) emptied in
     omega (arith, c.loop-weight.invariant)
 
-meant : (c : goal.In-None) → c.loop-weight.sum / c.weight-total-all.result ≡ mean c.args.weights.now c.args.figures.now
-meant c = let whole = summed c in let all = c.weight-total-all.ensures in cc
+meant : (c : goal.In-None) → c.loop-weight.sum / c.weight_total-all.result ≡ mean c.args.weights.now c.args.figures.now
+meant c = let whole = summed c in let all = c.weight_total-all.ensures in cc
 
-pub overflow-cast-result : goal.overflow-cast-result
-overflow-cast-result c =
-    omega (arith, meant c, joins_bounded mean mean_lawful c.args.weights.now c.args.figures.now c.in-ok-check-rows.ensures.means)
+pub overflow_cast-result : goal.overflow_cast-result
+overflow_cast-result c =
+    omega (arith, meant c, joins_bounded mean mean_lawful c.args.weights.now c.args.figures.now c.in_ok-check_rows.ensures.means)
 
 pub returns : goal.returns
 returns c =
     record {
-      answer = ap answered (meant c) ∙ lawful_answered mean c.args.weights.now c.args.figures.now c.in-ok-check-rows.ensures.means;
+      answer = ap answered (meant c) ∙ lawful_answered mean c.args.weights.now c.args.figures.now c.in_ok-check_rows.ensures.means;
     }

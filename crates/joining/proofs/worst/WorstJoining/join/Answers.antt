@@ -20,7 +20,7 @@ pub returns : goal.returns
 returns c =
     let ws = c.args.weights.now in
     let fs = c.args.figures.now in
-    let rows = c.in-ok-check-rows.ensures.means in
+    let rows = c.in_ok-check_rows.ensures.means in
     let is : c.loop-figure.greatest ≡ greatest fs =
     c.loop-figure.invariant ∙ ap (fold max (get_or fs 0 0)) (take_all c.loop-figure.figure-index fs c.loop-figure-test.false) in
     let row = row_facts ws fs rows in

@@ -7,9 +7,9 @@ pub returns : goal.returns
 returns g c =
     let p = c.args.self.now in
     let b = g.P.Plant.meaning p.plant in
-    let ok = taken (pairs p.bars) b c.args.state c.args.number c.in-ok-check-bar.ensures in
+    let ok = taken (pairs p.bars) b c.args.state c.args.number c.in_ok-check_bar.ensures in
     record {
-      answer = c.in-ok-check-bar.ensures;
+      answer = c.in_ok-check_bar.ensures;
       bars = c.push.ensures;
       plant = refl {a = p.plant};
       means = lane_closed_by (pairs p.bars) b c.args.state c.args.number ok (pairs c.push.new.self) c.push.ensures;

@@ -17,7 +17,7 @@ returns-then-left-eq0 g c =
     let vs = (g.P.Plant.meaning p.plant).moves s in
     let k = c.loop-below.below in
     let few : k < 16 = omega (arith, (g.P.Plant.lawful p.plant).moves_few s) in
-    let flag = flagged c.shut-in-shut.result shut c.shut-in-shut.ensures c.from.result k c.from.ensures few in
+    let flag = flagged c.shut_in-shut.result shut c.shut_in-shut.ensures c.from.result k c.from.ensures few in
     walk_found shut vs k c.loop-below.left c.args.number c.loop-below.invariant (omega arith) (flag false c.if-not-shut-from.true) c.if-left-eq0.true
 
 pub loop-below-preserved : goal.loop-below-preserved
@@ -28,7 +28,7 @@ loop-below-preserved g c =
     let vs = (g.P.Plant.meaning p.plant).moves s in
     let k = c.loop-below.below in
     let few : k < 16 = omega (arith, (g.P.Plant.lawful p.plant).moves_few s) in
-    let flag = flagged c.shut-in-shut.result shut c.shut-in-shut.ensures c.from.result k c.from.ensures few in
+    let flag = flagged c.shut_in-shut.result shut c.shut_in-shut.ensures c.from.result k c.from.ensures few in
     elim c.if-not-shut-from.branch [
       | then-not-shut-from+else-left-eq0 w ↦
           subst (λ (i : ℕ). Walked shut vs (k + 1) i c.args.number) (sym w.left-is)
@@ -50,4 +50,4 @@ returns-else-left-number g c =
     let s = c.args.state in
     let vs = (g.P.Plant.meaning p.plant).moves s in
     walk_past (barred (pairs p.bars) s) vs c.loop-below.below c.loop-below.left c.args.number c.loop-below.invariant (omega arith) c.if-left-number.false
-    ∙ ap (λ i. get_or vs i no_move) (sym c.move-count-count.ensures)
+    ∙ ap (λ i. get_or vs i no_move) (sym c.move_count-count.ensures)

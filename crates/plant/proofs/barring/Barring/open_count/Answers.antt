@@ -17,7 +17,7 @@ loop-number-preserved g c =
     let n = c.loop-number.number in
     let inside : n < length vs = omega arith in
     let few : n < 16 = omega (arith, (g.P.Plant.lawful p.plant).moves_few s) in
-    let flag = flagged c.shut-in-shut.result shut c.shut-in-shut.ensures c.from.result n c.from.ensures few in
+    let flag = flagged c.shut_in-shut.result shut c.shut_in-shut.ensures c.from.result n c.from.ensures few in
     elim c.if-not-shut-from.branch [
       | then-not-shut-from w ↦ (let step = ap length (open_found shut vs n inside (flag false w.if-not-shut-from.true)) in (omega (arith, w.open-is), omega (arith, w.open-is)))
       | else-not-shut-from w ↦ (let step = ap length (open_shut shut vs n inside (flag true w.if-not-shut-from.false)) in (omega (arith, w.open-is), omega (arith, w.open-is)))

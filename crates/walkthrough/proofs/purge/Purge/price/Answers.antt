@@ -3,7 +3,7 @@ use Rattle.joining.proofs.Bounded.{answer_bounded}
 use Rattle.walkthrough.proofs.purge.Purge.price.Goals as goal
 
 -- by the laws of joinings the figure is at most 1,000,000,000, and 16 bits of cost leave room for it
-pub overflow-add-result : goal.overflow-add-result
-overflow-add-result g c =
+pub overflow_add-result : goal.overflow_add-result
+overflow_add-result g c =
     let joining = c.args.joining.now in
-    omega (arith, answer_bounded (g.J.Joining.meaning joining) (g.J.Joining.lawful joining) c.args.self.now.weights.now c.args.self.now.figures.now c.in-ok-figure.figure c.in-ok-figure.ensures.answer)
+    omega (arith, answer_bounded (g.J.Joining.meaning joining) (g.J.Joining.lawful joining) c.args.self.now.weights.now c.args.self.now.figures.now c.in_ok-figure.figure c.in_ok-figure.ensures.answer)
