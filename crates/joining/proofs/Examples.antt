@@ -1,4 +1,4 @@
--- The worked rows compute to their answers, and each shut_out function breaks a law on one row.
+-- The worked rows compute to their answers, and each shut-out function breaks a law on one row.
 use Rattle.std.proofs.Common.{◌≡◌, ℕ, List, [], ◌∷◌, Ok, Result, refl, arith}
 use Rattle.joining.specs.Joinings.{mean}
 use Rattle.joining.specs.Rows.{Rows}

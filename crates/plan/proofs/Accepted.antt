@@ -1,5 +1,5 @@
 -- A text is accepted exactly where it is that of a plan, and its records are then written.
-use Rattle.std.proofs.Common.{◌≡◌, ℕ, ◌≤◌, List, length, sym, refl, ap, ◌∙◌, subst, arith}
+use Rattle.std.proofs.Common.{◌≡◌, ℕ, ◌≤◌, List, length, refl, ap, ◌∙◌, subst, arith}
 use Rattle.refusal.specs.declared.refusal.Refusal.{Refusal}
 use Rattle.refusal.specs.Told.{Told, answered, refused, and_then}
 use Rattle.text.specs.Faults.{longest_text}
@@ -7,7 +7,7 @@ use Rattle.text.proofs.Steps.{same_answer}
 use Rattle.plan.specs.declared.counts.Counts.{Counts}
 use Rattle.plan.specs.declared.records.PlanHead.{PlanHead}
 use Rattle.plan.specs.Accepted.{ReadsFormat}
-use Rattle.plan.specs.Format.{TextOf, plan_text}
+use Rattle.plan.specs.Format.{TextOf}
 use Rattle.plan.specs.Lines.{head_of, read_plan}
 use Rattle.plan.specs.Plans.{Plan}
 use Rattle.plan.specs.Records.{Records, records_after}

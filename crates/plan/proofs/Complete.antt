@@ -1,5 +1,5 @@
 -- What a plan within the limits writes is read as that plan.
-use Rattle.std.proofs.Common.{◌≡◌, ℕ, zero, suc, ◌+◌, ◌-◌, ◌^◌, ◌<◌, ◌≤◌, true, false, eqb, ltb, leb, List, [], ◌∷◌, ◌++◌, length, drop, codes, decimal, sym, refl, ap, ◌∙◌, subst, append_assoc, append-nil, arith, length-drop}
+use Rattle.std.proofs.Common.{◌≡◌, ℕ, zero, suc, ◌+◌, ◌-◌, ◌^◌, ◌<◌, ◌≤◌, eqb, ltb, leb, List, [], ◌∷◌, ◌++◌, length, drop, codes, decimal, sym, refl, ap, ◌∙◌, append_assoc, append-nil, arith, length-drop}
 use Rattle.std.proofs.lemmas.Bool.{cond-true, cond-false, eq-eqb, le-leb, lt-ltb}
 use Rattle.std.proofs.lemmas.Fmt.{decimal_digit}
 use Rattle.refusal.specs.Told.{Told, answered}
@@ -7,22 +7,19 @@ use Rattle.plant.specs.Belts.{Move, Outcome, no_outcome}
 use Rattle.plant.specs.Laws.{LawfulMove, LawfulOutcome}
 use Rattle.text.specs.declared.marks.Sign.{Sign}
 use Rattle.text.specs.declared.marks.Sign.TheVariants.{Open, Close, Space, Feed}
-use Rattle.text.specs.declared.numbers.Number.{Number}
 use Rattle.text.specs.Faults.{longest_text}
 use Rattle.text.specs.Marks.{sign_byte}
-use Rattle.text.specs.Numbers.{number_at, ranged_at, run}
-use Rattle.text.specs.Words.{is_at, sign_at, word_at}
+use Rattle.text.specs.Numbers.{run}
+use Rattle.text.specs.Words.{is_at, sign_at}
 use Rattle.text.proofs.Steps.{then_answered}
 use Rattle.text.proofs.Written.{at_front, number_back, other_byte, ranged_back, word_back}
 use Rattle.plan.specs.declared.counts.Counts.{Counts}
-use Rattle.plan.specs.declared.head.Head.{Head}
-use Rattle.plan.specs.declared.openings.LineWord.{LineWord}
 use Rattle.plan.specs.declared.openings.Opening.{Opening}
 use Rattle.plan.specs.declared.openings.Opening.TheVariants.{Goal, State}
 use Rattle.plan.specs.declared.walk.Limits.{Limits}
 use Rattle.plan.specs.Format.{feed, forms_text, outcome_text, move_text, line_text, lines_text, plan_text}
-use Rattle.plan.specs.Forms.{Got, also, below, close_at, cost_at, forms_at, grow_move, grow_outcome, keyword_at, more_at, move_item, moves_at, open_at, outcome_at, outcome_item, outcomes_at, state_at}
-use Rattle.plan.specs.Lines.{body_at, due_at, end_at, front_at, grow_line, head_at, line_at, lines_at, opening_at, opening_word, read_plan, rest_at, unused}
+use Rattle.plan.specs.Forms.{Got, also, below, close_at, cost_at, forms_at, grow_move, grow_outcome, keyword_at, more_at, move_item, open_at, outcome_at, outcome_item, state_at}
+use Rattle.plan.specs.Lines.{body_at, due_at, front_at, grow_line, head_at, line_at, lines_at, opening_at, opening_word, read_plan, rest_at, unused}
 use Rattle.plan.specs.Plans.{Plan}
 use Rattle.plan.proofs.Each.{Each, EachFits, LineFits, LineLawful, MoveFits, OutcomeFits, each_from}
 

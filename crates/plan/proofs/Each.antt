@@ -1,7 +1,7 @@
 -- What holds of each of a list, and of each of a row as its records are counted.
-use Rattle.std.proofs.Common.{◌≡◌, ℕ, zero, suc, ◌<◌, ◌≤◌, List, [], ◌∷◌, length, get_or, arith}
+use Rattle.std.proofs.Common.{ℕ, zero, suc, ◌<◌, ◌≤◌, List, [], ◌∷◌, length, get_or, arith}
 use Rattle.plant.specs.Belts.{Move, Outcome}
-use Rattle.plant.specs.Laws.{LawfulMove, LawfulOutcome}
+use Rattle.plant.specs.Laws.{LawfulMove}
 use Rattle.plan.specs.declared.counts.Counts.{Counts}
 use Rattle.plan.specs.Forms.{grow_move, grow_outcome}
 

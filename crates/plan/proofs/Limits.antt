@@ -1,10 +1,10 @@
 -- A plan within the limits has lawful lines, and lawful lines make one.
-use Rattle.std.proofs.Common.{◌≡◌, ℕ, ◌<◌, ◌≤◌, Bool, true, false, ◌&&◌, eqb, ltb, List, [], ◌∷◌, length, get_or, sym, refl, ap, ◌∙◌, subst, inl, inr, ⊎_elim, arith}
+use Rattle.std.proofs.Common.{◌≡◌, ℕ, ◌<◌, ◌≤◌, Bool, ◌&&◌, eqb, ltb, List, [], ◌∷◌, length, get_or, refl, ap, inl, inr, arith}
 use Rattle.std.proofs.lemmas.List.{get_or_past}
 use Rattle.std.proofs.lemmas.Bool.{and_from, and_parts, cases_lt, eq-eqb, eqb-true, le-ltb, lt-ltb}
 use Rattle.plant.specs.Belts.{Move, no_move}
-use Rattle.plant.specs.Laws.{LawfulBelt, LawfulMove}
-use Rattle.plan.specs.Plans.{Plan, LawfulPlan, plan_belt}
+use Rattle.plant.specs.Laws.{LawfulMove}
+use Rattle.plan.specs.Plans.{Plan, LawfulPlan}
 use Rattle.plan.proofs.Each.{Each, LineLawful, each_at, each_from}
 
 empty : {A : Type 0} (xs : List A) → length xs ≡ 0 → xs ≡ []

@@ -1,5 +1,5 @@
 -- The word that opens a line.
-use Rattle.std.proofs.Common.{◌≡◌, ℕ, ◌+◌, ◌-◌, ◌≤◌, false, List, [], ◌∷◌, ◌++◌, length, get_or, take, drop, codes, sym, refl, ap, ◌∙◌, ⊎_elim, arith, length-append, length-drop}
+use Rattle.std.proofs.Common.{◌≡◌, ℕ, ◌+◌, ◌-◌, ◌≤◌, false, List, [], ◌∷◌, ◌++◌, length, get_or, take, drop, codes, sym, ap, ◌∙◌, ⊎_elim, arith, length-append, length-drop}
 use Rattle.std.proofs.lemmas.List.{take_rest}
 use Rattle.std.proofs.lemmas.Bool.{cases_Bool, cond-true, cond-false}
 use Rattle.refusal.specs.Told.{answered, refused}
@@ -7,7 +7,6 @@ use Rattle.text.specs.Faults.{bad_byte}
 use Rattle.text.specs.Words.{is_at, word_at}
 use Rattle.text.proofs.Steps.{then_answered}
 use Rattle.text.proofs.Written.{at_front, other_byte, word_back}
-use Rattle.plan.specs.declared.openings.LineWord.{LineWord}
 use Rattle.plan.specs.declared.openings.Opening.{Opening}
 use Rattle.plan.specs.declared.openings.Opening.TheVariants.{Goal, State}
 use Rattle.plan.specs.Lines.{opening_at, opening_word}

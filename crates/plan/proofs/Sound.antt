@@ -1,5 +1,5 @@
 -- A text that is accepted is what its plan writes.
-use Rattle.std.proofs.Common.{◌≡◌, ℕ, zero, suc, ◌+◌, ◌-◌, ◌^◌, ◌<◌, ◌≤◌, true, false, leb, List, [], ◌∷◌, ◌++◌, length, get_or, drop, codes, decimal, sym, refl, ap, ◌∙◌, subst, ⊎_elim, append_assoc, append-nil, arith}
+use Rattle.std.proofs.Common.{◌≡◌, ℕ, zero, suc, ◌+◌, ◌-◌, ◌^◌, ◌<◌, ◌≤◌, leb, List, [], ◌∷◌, ◌++◌, length, drop, codes, decimal, sym, refl, ap, ◌∙◌, subst, ⊎_elim, append_assoc, append-nil, arith}
 use Rattle.std.proofs.lemmas.Bool.{cases_Bool, cond-true, cond-false, leb-true}
 use Rattle.std.proofs.lemmas.Fmt.{decimal_digit}
 use Rattle.refusal.specs.Told.{Told, answered, refused, and_then}
@@ -20,7 +20,7 @@ use Rattle.plan.specs.declared.openings.Opening.{Opening}
 use Rattle.plan.specs.declared.openings.Opening.TheVariants.{Goal, State}
 use Rattle.plan.specs.declared.walk.Limits.{Limits}
 use Rattle.plan.specs.Format.{feed, forms_text, outcome_text, move_text, line_text, lines_text, plan_text}
-use Rattle.plan.specs.Forms.{Got, also, close_at, cost_at, forms_at, grow_move, grow_outcome, keyword_at, more_at, move_item, moves_at, open_at, outcome_at, outcome_item, outcomes_at, state_at}
+use Rattle.plan.specs.Forms.{Got, also, close_at, cost_at, forms_at, grow_move, grow_outcome, keyword_at, more_at, move_item, open_at, outcome_at, outcome_item, outcomes_at, state_at}
 use Rattle.plan.specs.Lines.{body_at, due_at, end_at, front_at, grow_line, head_at, line_at, lines_at, opening_at, opening_word, read_plan, rest_at, unused}
 use Rattle.plan.specs.Plans.{Plan}
 use Rattle.plan.proofs.Each.{Each, EachFits, LineFits, LineLawful, MoveFits, OutcomeFits, each_at}

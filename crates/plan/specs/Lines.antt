@@ -1,5 +1,5 @@
 -- How the lines of a plan text are read, and the whole text. The leftmost fault answers.
-use Rattle.std.specs.Prelude.{ℕ, zero, suc, ◌+◌, cond, List, [], ◌∷◌, length, codes, ◌==◌, nat_le}
+use Rattle.std.specs.Prelude.{ℕ, zero, suc, ◌+◌, cond, List, [], length, codes, ◌==◌, nat_le}
 use Rattle.refusal.specs.Told.{Told, answered, refused, and_then}
 use Rattle.plant.specs.Belts.{Move}
 use Rattle.text.specs.declared.marks.Sign.TheVariants.{Open, Close, Space, Feed}

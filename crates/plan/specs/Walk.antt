@@ -1,5 +1,5 @@
 -- What a walk through a text leaves: how far it went, and what the tables hold then. A refused walk says nothing of them.
-use Rattle.std.specs.Prelude.{ℕ, List, [], ◌∷◌}
+use Rattle.std.specs.Prelude.{List, [], ◌∷◌}
 use Rattle.refusal.specs.Told.{Told, answered, and_then}
 use Rattle.plant.specs.Belts.{Move, Outcome}
 use Rattle.plan.specs.declared.counts.Counts.{Counts}

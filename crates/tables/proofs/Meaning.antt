@@ -1,26 +1,24 @@
 -- The tables after a load are read as the belt that the plan stands for.
-use Rattle.std.proofs.Common.{◌≡◌, ℕ, zero, suc, ◌+◌, ◌-◌, ◌<◌, ◌≤◌, Bool, ◌&&◌, eqb, ltb, List, [], ◌∷◌, ◌++◌, map, length, get_or, drop, sym, refl, ap, ◌∙◌, subst, inl, inr, append_assoc, arith, length-append, get_or-append-add}
-use mathlib.Core.Path.{fun_ext}
+use Rattle.std.proofs.Common.{◌≡◌, ℕ, zero, suc, ◌+◌, ◌-◌, ◌<◌, ◌≤◌, ◌&&◌, eqb, ltb, List, [], ◌∷◌, ◌++◌, map, length, get_or, drop, sym, refl, ap, ◌∙◌, subst, inl, inr, append_assoc, arith, length-append, get_or-append-add}
 use Rattle.std.specs.List.{range_with_len}
 use Rattle.std.proofs.lemmas.List.FromFn.{fill_by_all}
-use Rattle.std.proofs.lemmas.List.{get_or_append_left, get_or-map, get_or_past, length-map}
+use Rattle.std.proofs.lemmas.List.{get_or_append_left, get_or-map, length-map}
 use Rattle.std.proofs.lemmas.Bool.{cases_lt, cond-true, cond-false, le-ltb, lt-ltb}
 use Rattle.refusal.specs.Told.{Told, answered, refused, and_then}
-use Rattle.plant.specs.Belts.{Belt, Move, Outcome, no_move, no_outcome}
+use Rattle.plant.specs.Belts.{Move, Outcome, no_move, no_outcome}
 use Rattle.plant.specs.Laws.{LawfulMove, LawfulOutcome}
 use Rattle.plan.specs.declared.records.StateRecord.{StateRecord}
 use Rattle.plan.specs.declared.records.MoveRecord.{MoveRecord}
 use Rattle.plan.specs.declared.records.OutcomeRecord.{OutcomeRecord}
 use Rattle.plan.specs.declared.records.PlanHead.{PlanHead}
-use Rattle.plan.specs.Format.{TextOf}
 use Rattle.plan.specs.Lines.{head_of, read_plan}
 use Rattle.plan.specs.Plans.{Plan, LawfulPlan, all_moves, all_outcomes, plan_belt}
 use Rattle.plan.specs.Records.{Records, loaded, move_records, outcome_record, over, records_after, state_records}
 use Rattle.plan.specs.Tables.{room_of}
 use Rattle.plan.proofs.Accepted.{accepted_means, reads_format}
 use Rattle.plan.proofs.Placed.{map_both, moves_long, outcomes_both, records_both, states_long}
-use Rattle.tables.specs.Clamped.{belt_in, move_in, moves_in, moves_of, nearest, no_move_record, no_outcome_record, no_state, outcome_in, outcomes_in, states_in, table_belt}
-use Rattle.tables.specs.Loads.{Loaded, Loads, MakesPlan, NotLoaded}
+use Rattle.tables.specs.Clamped.{belt_in, move_in, moves_in, moves_of, nearest, no_move_record, no_outcome_record, no_state, outcome_in, states_in, table_belt}
+use Rattle.tables.specs.Loads.{Loads, MakesPlan}
 
 -- xs stand in a table from the place u on
 abbrev Stands : {A : Type 0} → List A → ℕ → List A → Type 0

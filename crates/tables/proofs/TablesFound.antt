@@ -1,5 +1,5 @@
 -- What the code finds at a number of a plant of tables.
-use Rattle.std.proofs.Common.{◌≡◌, ℕ, ◌+◌, ◌<◌, ◌≤◌, List, length, get_or, Some, None, sym, ap, ◌∙◌, subst, arith}
+use Rattle.std.proofs.Common.{◌≡◌, ℕ, ◌+◌, ◌<◌, ◌≤◌, List, length, get_or, Some, None, ap, ◌∙◌, subst, arith}
 use Rattle.std.proofs.lemmas.List.{get_or_past}
 use Rattle.plant.specs.Belts.{Move, no_move, no_outcome, move_at}
 use Rattle.plan.specs.declared.records.StateRecord.{StateRecord}

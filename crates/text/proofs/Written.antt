@@ -3,7 +3,6 @@ use Rattle.std.proofs.Common.{◌≡◌, ℕ, ◌+◌, ◌-◌, ◌^◌, ◌<◌
 use lib.Seq.{drop-append_seam}
 use Rattle.std.proofs.lemmas.Bool.{cases_lt, cond-true, lt-ltb, le-leb, eq-eqb, and_from}
 use Rattle.refusal.specs.Told.{answered, refused}
-use Rattle.text.specs.declared.numbers.Number.{Number}
 use Rattle.text.specs.Faults.{bad_byte}
 use Rattle.text.specs.Numbers.{run, number_from, number_at, in_range, ranged_at}
 use Rattle.text.specs.Words.{is_at, word_at}

@@ -1,5 +1,5 @@
 -- What a character is.
-use Rattle.std.specs.Prelude.{◌≡◌, ℕ, ◌+◌, ◌-◌, ◌<◌, true, false, cond, ◌==◌, ◌≢◌}
+use Rattle.std.specs.Prelude.{◌≡◌, ℕ, ◌+◌, ◌-◌, ◌<◌, false, cond, ◌==◌, ◌≢◌}
 use Rattle.std.specs.Char.{is_ascii_digit}
 use Rattle.text.specs.declared.marks.Mark.{Mark}
 use Rattle.text.specs.declared.marks.Mark.TheVariants.{Sign as Signed, Digit, Other}

@@ -72,8 +72,8 @@ fn show_refusals(rt: &HostRuntime) -> anyhow::Result<()> {
 }
 
 // The line of a refused call.
-fn show_refusal(rt: &HostRuntime, res: Result<(), PlantFault>) -> anyhow::Result<()> {
-    match res {
+fn show_refusal(rt: &HostRuntime, answer: Result<(), PlantFault>) -> anyhow::Result<()> {
+    match answer {
         Ok(()) => println!(rt; "not refused")?,
         Err(fault) => println!(rt; "{fault}")?,
     }

@@ -1,5 +1,4 @@
 use Rattle.plan.specs.Lines.{read_plan}
-use Rattle.plan.specs.Tables.{held}
 use Rattle.plan.proofs.Accepted.{reads_format, walk_told}
 use Rattle.plan.proofs.check.check_plan.Goals as goal
 

@@ -1,4 +1,4 @@
-use Rattle.std.proofs.Common.{◌≡◌, ℕ, ◌+◌, ◌-◌, ◌<◌, sym, ap, ◌∙◌, arith, rules}
+use Rattle.std.proofs.Common.{◌≡◌, ℕ, ◌+◌, ◌-◌, ◌<◌, ap, ◌∙◌, arith, rules}
 use Rattle.plan.specs.Lines.{grow_line, lines_at}
 use Rattle.plan.specs.Tables.{held}
 use Rattle.plan.specs.Walk.{put_line}

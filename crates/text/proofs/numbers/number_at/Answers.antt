@@ -1,8 +1,8 @@
-use Rattle.std.proofs.Common.{◌≡◌, ◌<◌, drop, sym, ap, ◌∙◌, inl, inr, arith}
+use Rattle.std.proofs.Common.{◌<◌, drop, sym, ap, ◌∙◌, inl, inr, arith}
 use Rattle.refusal.specs.Told.{answered}
 use Rattle.text.specs.Numbers.{run}
 use Rattle.text.specs.declared.numbers.Number.{Number}
-use Rattle.text.proofs.Scanned.{run_inside, number_none, number_zero, number_ok, zero_here, no_zero_here}
+use Rattle.text.proofs.Scanned.{run_inside, number_zero, number_ok, zero_here, no_zero_here}
 use Rattle.text.proofs.numbers.number_at.Goals as goal
 use Rattle.text.proofs.numbers.number_at.Goals.{else-text-at-eq48-via-then-text-at-eq48+else-read-at-gt1, else-text-at-eq48-via-else-text-at-eq48}
 

@@ -1,4 +1,4 @@
-use Rattle.std.proofs.Common.{◌≡◌, sym, ◌∙◌}
+use Rattle.std.proofs.Common.{sym, ◌∙◌}
 use Rattle.text.proofs.Scanned.{word_more, word_other, word_end, not_at_past, not_at_other}
 use Rattle.text.proofs.words.word_at.Goals as goal
 use Rattle.text.proofs.words.word_at.Goals.{else-next-text-via-then-next-text+else-text-next, else-next-text-via-else-next-text}
