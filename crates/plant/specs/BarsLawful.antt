@@ -2,7 +2,7 @@
 use Rattle.std.specs.Prelude.{◌≡◌, ℕ, suc, ◌+◌, ◌≤◌, Bool, true, false, cond, List, [], ◌∷◌, length}
 use Rattle.std.proofs.Common.{ap, arith}
 use Rattle.std.proofs.ByRecursion.{All-get_or, All-from_get_or}
-use Rattle.std.specs.List.{AllByRecursion as All}
+use Rattle.std.specs.List.{AllByRecursion}
 use Rattle.plant.specs.declared.bars.Bar.{Bar}
 use Rattle.plant.specs.Belts.{Belt, Move, no_move, move_count}
 use Rattle.plant.specs.Laws.{LawfulBelt, LawfulMove}
@@ -16,11 +16,11 @@ open_few shut k (v ∷ vs) = let more = open_few shut (k + 1) vs in go (shut k) 
     go true h = omega arith
     go false h = omega arith
 
-open_all : (P : Move → Type 0) (shut : ℕ → Bool) (k : ℕ) (vs : List Move) → All P vs → All P (open_from shut k vs)
+open_all : (P : Move → Type 0) (shut : ℕ → Bool) (k : ℕ) (vs : List Move) → AllByRecursion P vs → AllByRecursion P (open_from shut k vs)
 open_all P shut k [] a = tt
 open_all P shut k (v ∷ vs) a = go (shut k) (open_all P shut (k + 1) vs a.1)
   where
-    go : (t : Bool) → All P (open_from shut (k + 1) vs) → All P (cond t (open_from shut (k + 1) vs) (v ∷ open_from shut (k + 1) vs))
+    go : (t : Bool) → AllByRecursion P (open_from shut (k + 1) vs) → AllByRecursion P (cond t (open_from shut (k + 1) vs) (v ∷ open_from shut (k + 1) vs))
     go true h = h
     go false h = (a.0, h)
 
@@ -32,7 +32,7 @@ left_few : (xs all : List Move) → length xs ≤ length all → length (left_of
 left_few [] all h = omega arith
 left_few (x ∷ xs) all h = h
 
-left_keeps : (P : Move → Type 0) (xs all : List Move) → All P xs → All P all → All P (left_of xs all)
+left_keeps : (P : Move → Type 0) (xs all : List Move) → AllByRecursion P xs → AllByRecursion P all → AllByRecursion P (left_of xs all)
 left_keeps P [] all a b = b
 left_keeps P (x ∷ xs) all a b = a
 
