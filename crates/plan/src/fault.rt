@@ -1,7 +1,7 @@
 //! Why a plan text says no.
 ghost use Rattle.std.specs.Prelude.{◌≡◌, Some};
 ghost use Rattle.plan.specs.Faults.{plan_refusal};
-ghost use Rattle.plan.specs.declared.fault.PlanFault.TheVariants.{Text as in-text};
+ghost use Rattle.plan.specs.declared.fault.PlanFault.TheVariants.{Text as in_text};
 ghost use Rattle.refusal.specs.Line.{refusal_line};
 
 use refusal::{Fault, Layer, Refusal};
@@ -61,7 +61,7 @@ impl Error for PlanFault {}
 
 /// A fault of the text becomes one of the plan, and is held whole.
 impl From<TextFault> for PlanFault {
-    ghost from_gives = { λ fault r. r ≡ in-text fault };
+    ghost from_gives = { λ fault r. r ≡ in_text fault };
 
     fn from(fault: TextFault) -> PlanFault {
         PlanFault::Text(fault)

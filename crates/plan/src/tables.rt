@@ -1,5 +1,5 @@
 //! The three tables that a plan is written into.
-ghost use Rattle.std.specs.Prelude.{◌≡◌, set};
+ghost use Rattle.std.specs.Prelude.{◌≡◌, slice_set};
 ghost use Rattle.plan.specs.Tables.{SameTables, held, with_move, with_outcome, with_state};
 
 use crate::records::{MoveRecord, OutcomeRecord, StateRecord};
@@ -43,7 +43,7 @@ impl<'a> Tables<'a> {
 
 // Writes a state into its table, field by field.
 fn put_state(table: &mut [StateRecord], place: usize, first: usize, end: usize)
-    ensures { table.new ≡ set table.old place (record { first = first; end = end }) }
+    ensures { table.new ≡ slice_set table.old place (record { first = first; end = end }) }
 {
     if place < table.len() {
         table[place].first = first;
@@ -53,7 +53,7 @@ fn put_state(table: &mut [StateRecord], place: usize, first: usize, end: usize)
 
 // Writes a move into its table, field by field.
 fn put_move(table: &mut [MoveRecord], place: usize, cost: u16, first: usize, end: usize)
-    ensures { table.new ≡ set table.old place (record { cost = cost; first = first; end = end }) }
+    ensures { table.new ≡ slice_set table.old place (record { cost = cost; first = first; end = end }) }
 {
     if place < table.len() {
         table[place].cost = cost;
@@ -64,7 +64,7 @@ fn put_move(table: &mut [MoveRecord], place: usize, cost: u16, first: usize, end
 
 // Writes an outcome into its table, field by field.
 fn put_outcome(table: &mut [OutcomeRecord], place: usize, state: u16, weight: u8)
-    ensures { table.new ≡ set table.old place (record { state = state; weight = weight }) }
+    ensures { table.new ≡ slice_set table.old place (record { state = state; weight = weight }) }
 {
     if place < table.len() {
         table[place].state = state;

@@ -46,7 +46,7 @@ impl<'a> TablePlant<'a> {
         outcomes: &'a [OutcomeRecord],
     ) -> TablePlant<'a>
         ensures belt { belt_of result ≡ table_belt head.count head.start (records_of result) }
-        ensures tables { records_of result ≡ record { states = states.entry.now; moves = moves.now; outcomes = outcomes.now } }
+        ensures tables { records_of result ≡ record { states = states.now; moves = moves.now; outcomes = outcomes.now } }
         ensures means { MakesPlan head (records_of result) (belt_of result) }
     {
         TablePlant::over(head, states, moves, outcomes)
@@ -60,7 +60,7 @@ impl<'a> TablePlant<'a> {
         outcomes: &'a [OutcomeRecord],
     ) -> TablePlant<'a>
         ensures belt { belt_of result ≡ table_belt head.count head.start (records_of result) }
-        ensures tables { records_of result ≡ record { states = states.entry.now; moves = moves.now; outcomes = outcomes.now } }
+        ensures tables { records_of result ≡ record { states = states.now; moves = moves.now; outcomes = outcomes.now } }
     {
         TablePlant {
             count: head.count,

@@ -100,9 +100,9 @@ number_sound text at r e small =
     let mine : decimal r.value ≡ ds = ap decimal (sym v ∙ front-is) ∙ written in
     sym split ∙ ap (λ (l : List ℕ). l ++ drop k xs) (sym mine) ∙ ap (λ (l : List ℕ). decimal r.value ++ l) (drop-drop k at text ∙ ap (λ (j : ℕ). drop j text) (sym nx))
 
-get_d_front : (xs ys : List ℕ) → 0 < length xs → get_or (xs ++ ys) 0 0 ≡ get_or xs 0 0
-get_d_front [] ys h = absurd (omega arith)
-get_d_front (x ∷ xs) ys h = refl
+get_or_front : (xs ys : List ℕ) → 0 < length xs → get_or (xs ++ ys) 0 0 ≡ get_or xs 0 0
+get_or_front [] ys h = absurd (omega arith)
+get_or_front (x ∷ xs) ys h = refl
 
 leading_not : (bs : List ℕ) → 48 < get_or bs 0 0 → leading_zero bs ≡ false
 leading_not bs h = grind (arith, nat_tests)
@@ -119,7 +119,7 @@ number_complete v at rest small z =
     let long : run (ds ++ rest) ≡ length ds = run_digits ds rest all z in
     let some : 0 < length ds = decimal_nonempty v wide in
     let any : 0 < run (ds ++ rest) = omega arith in
-    let first : get_or (ds ++ rest) 0 0 ≡ get_or ds 0 0 = get_d_front ds rest some in
+    let first : get_or (ds ++ rest) 0 0 ≡ get_or ds 0 0 = get_or_front ds rest some in
     let no_zero : leading_zero (ds ++ rest) ≡ false =
     ⊎_elim
     (λ pos. let f : 48 < get_or ds 0 0 = first_decimal v pos wide in leading_not (ds ++ rest) (omega arith))
