@@ -10,7 +10,7 @@ use Rattle.text.specs.Faults.{bad_byte, longest_text, too_long}
 use Rattle.text.specs.Marks.{sign_byte}
 use Rattle.text.specs.Numbers.{ranged_at}
 use Rattle.text.specs.Words.{is_at, sign_at}
-use Rattle.text.proofs.Scanned.{drop_here, drop_past}
+use Rattle.std.proofs.lemmas.List.{drop_all, drop_more}
 use Rattle.text.proofs.Spelled.{at_true}
 use Rattle.text.proofs.Steps.{same_answer, then_parts}
 use Rattle.plan.specs.declared.counts.Counts.{Counts}
@@ -58,7 +58,7 @@ module _ {A : Type 0} (item : Counts → ℕ → Told (Got A)) (grow : Counts �
       (λ y. let p = at_true text at (sign_byte Space) y in
       then_parts (item u (at + 1)) _ g (sym (cond-true (is_at text at (sign_byte Space)) _ (close_at text at) y) ∙ e) (λ o e1 k1.
       also_parts o.value (more_at item grow k text (grow u o.value) o.next) g k1 (λ h e2 is.
-      subst (Row (suc k) u at) is (one_sound k u at (at + 1) o h (record { stands = drop_here text at p.0 ∙ (λ i. p.1 i ∷ drop (at + 1) text) }) e1 (more_sound k (grow u o.value) o.next h e2)))))
+      subst (Row (suc k) u at) is (one_sound k u at (at + 1) o h (record { stands = drop_more text at 0 p.0 ∙ (λ i. p.1 i ∷ drop (at + 1) text) }) e1 (more_sound k (grow u o.value) o.next h e2)))))
       (λ y. close_sound (suc k) u at g (sym (cond-false (is_at text at (sign_byte Space)) _ (close_at text at) y) ∙ e))
       (cases_Bool (is_at text at (sign_byte Space)))
 
@@ -252,7 +252,7 @@ plan_sound text room p e =
     let a = head_sound text h e1 in
     let b = lines_sound text (record { states = h.count; room = room }) a.2 h.count unused h.next g (omega (arith, a.2)) e2 in
     let q = end_parts text _ p g.next k2 in
-    let last : drop g.next text ≡ [] = drop_past text g.next q.1 in
+    let last : drop g.next text ≡ [] = drop_all g.next text q.1 in
     let front = codes "(plan 1 " ++ (decimal h.count ++ (codes " " ++ (decimal h.start ++ (codes ")" ++ feed)))) in
     let all : drop h.next text ≡ lines_text 0 g.value = b.0.stands ∙ ap (λ (l : List ℕ). lines_text 0 g.value ++ l) last ∙ append-nil (lines_text 0 g.value) in
     subst (Kept text room) q.0 (

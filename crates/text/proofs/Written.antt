@@ -1,12 +1,13 @@
 -- What is written at a place is read there.
 use Rattle.std.proofs.Common.{◌≡◌, ℕ, ◌+◌, ◌-◌, ◌^◌, ◌<◌, ◌≤◌, true, false, leb, List, [], ◌∷◌, ◌++◌, length, get_or, drop, decimal, sym, refl, ap, ◌∙◌, ⊎_elim, arith, drop-drop}
-use lib.Seq.{drop-append_seam}
+use Rattle.std.proofs.Math.Seq.{drop-append_seam}
+use Rattle.std.proofs.lemmas.List.{drop_all, drop_more}
 use Rattle.std.proofs.lemmas.Bool.{cases_lt, cond-true, lt-ltb, le-leb, eq-eqb, and_from}
 use Rattle.refusal.specs.Told.{answered, refused}
 use Rattle.text.specs.Faults.{bad_byte}
 use Rattle.text.specs.Numbers.{run, number_from, number_at, in_range, ranged_at}
 use Rattle.text.specs.Words.{is_at, word_at}
-use Rattle.text.proofs.Scanned.{drop_here, drop_past, not_at_other, not_at_past}
+use Rattle.text.proofs.Scanned.{not_at_other, not_at_past}
 use Rattle.text.proofs.Spelled.{number_complete}
 use Rattle.text.proofs.Steps.{then_answered}
 
@@ -14,10 +15,10 @@ use Rattle.text.proofs.Steps.{then_answered}
 pub at_front : (text : List ℕ) (at w : ℕ) (l : List ℕ) → drop at text ≡ w ∷ l → (is_at text at w ≡ true) × (drop (at + 1) text ≡ l)
 at_front text at w l e =
     ⊎_elim
-    (λ h. let d = drop_here text at h in
+    (λ h. let d = drop_more text at 0 h in
     let b : get_or text at 0 ≡ w = cc in
     (and_from _ _ (lt-ltb at (length text) h) (eq-eqb (get_or text at 0) w b), let r : drop (at + 1) text ≡ l = cc in r))
-    (λ h. let d = drop_past text at h in absurd (let z : ◌≡◌ {A = ℕ} 0 1 = cc in omega arith))
+    (λ h. let d = drop_all at text h in absurd (let z : ◌≡◌ {A = ℕ} 0 1 = cc in omega arith))
     (cases_lt at (length text))
 
 pub word_back : (text : List ℕ) (at : ℕ) (ws rest : List ℕ) → drop at text ≡ ws ++ rest → (next : ℕ) × (word_at text at ws ≡ answered next) × (drop next text ≡ rest)
@@ -44,6 +45,6 @@ ranged_back lo hi text at v rest small low high z e =
 pub other_byte : (text : List ℕ) (at b other : ℕ) (rest : List ℕ) → drop at text ≡ b ∷ rest → (b ≡ other → ⊥) → is_at text at other ≡ false
 other_byte text at b other rest e ne =
     ⊎_elim
-    (λ h. let d = drop_here text at h in let same : get_or text at 0 ≡ b = cc in not_at_other text at other (λ z. ne (sym same ∙ z)))
+    (λ h. let d = drop_more text at 0 h in let same : get_or text at 0 ≡ b = cc in not_at_other text at other (λ z. ne (sym same ∙ z)))
     (λ h. not_at_past text at other h)
     (cases_lt at (length text))

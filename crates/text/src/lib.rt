@@ -7,9 +7,11 @@
 mod fault;
 mod marks;
 mod numbers;
+mod parsed;
 mod words;
 
 pub use fault::{LONGEST_TEXT, TextFault};
 pub use marks::{Mark, Sign, is_sign, mark_of};
-pub use numbers::{Number, number_at, ranged_at};
+pub use numbers::{number_at, ranged_at};
+pub use parsed::Parsed;
 pub use words::{sign_at, word_at};

@@ -16,29 +16,27 @@ pub enum Sign {
     Feed,
 }
 
-/// What a character is: a sign, a digit with its value, or another one.
+/// A character that means something on its own: a sign, or a digit.
 #[derive(Clone, Copy, PartialEq, Eq, Debug)]
 pub enum Mark {
     /// A bracket, a space or a line feed.
     Sign(Sign),
     /// A digit, by its value.
     Digit(u8),
-    /// Any other character.
-    Other,
 }
 
-/// What a character is.
-pub fn mark_of(byte: u8) -> Mark
+/// What a character is, if it is a sign or a digit.
+pub fn mark_of(byte: u8) -> Option<Mark>
     ensures answer { result ≡ mark byte }
     ensures means { Marked byte result }
 {
     match byte {
-        b'(' => Mark::Sign(Sign::Open),
-        b')' => Mark::Sign(Sign::Close),
-        b' ' => Mark::Sign(Sign::Space),
-        b'\n' => Mark::Sign(Sign::Feed),
-        b'0'..=b'9' => Mark::Digit(byte - b'0'),
-        _ => Mark::Other,
+        b'(' => Some(Mark::Sign(Sign::Open)),
+        b')' => Some(Mark::Sign(Sign::Close)),
+        b' ' => Some(Mark::Sign(Sign::Space)),
+        b'\n' => Some(Mark::Sign(Sign::Feed)),
+        b'0'..=b'9' => Some(Mark::Digit(byte - b'0')),
+        _ => None,
     }
 }
 
@@ -46,11 +44,8 @@ pub fn mark_of(byte: u8) -> Mark
 pub fn is_sign(text: &[u8], at: usize, sign: Sign) -> bool
     ensures { result ≡ is_at text.now at (sign_byte sign) }
 {
-    if at >= text.len() {
-        return false;
-    }
-    match mark_of(text[at]) {
-        Mark::Sign(found) => found == sign,
-        _ => false,
+    match text.get(at) {
+        Some(byte) => mark_of(*byte) == Some(Mark::Sign(sign)),
+        None => false,
     }
 }

@@ -6,32 +6,25 @@ ghost use Rattle.text.specs.Numbers.{digits_at, number_at, ranged_at};
 
 use crate::fault::TextFault;
 use crate::marks::{Mark, mark_of};
+use crate::parsed::Parsed;
 
-/// A number that was read, and the place after its last digit.
-#[derive(Clone, Copy, PartialEq, Eq, Debug)]
-pub struct Number {
-    /// Its value; one that 64 bits do not hold counts as the greatest that they do.
-    pub value: u64,
-    /// The place after its last digit.
-    pub next: usize,
-}
-
-/// The number at a place: all the digits there, in base ten and without a leading zero.
-pub fn number_at(text: &[u8], at: usize) -> Result<Number, TextFault>
+/// The number at a place: all the digits there, in base ten and without a leading zero. One that 64 bits do not hold
+/// counts as the greatest that they do.
+pub fn number_at(text: &[u8], at: usize) -> Result<Parsed<u64>, TextFault>
     ensures { told text_refusal result ≡ number_at text.now at }
 {
     let read = digits(text, at);
     if read.next == at {
         return Err(TextFault::Byte(at));
     }
-    if text[at] == b'0' && read.next - at > 1 {
+    if text.get(at) == Some(&b'0') && read.next - at > 1 {
         return Err(TextFault::Number(at));
     }
     Ok(read)
 }
 
 /// The number at a place, if it lies from `low` to `high`.
-pub fn ranged_at(text: &[u8], at: usize, low: u64, high: u64) -> Result<Number, TextFault>
+pub fn ranged_at(text: &[u8], at: usize, low: u64, high: u64) -> Result<Parsed<u64>, TextFault>
     ensures answer { told text_refusal result ≡ ranged_at low high text.now at }
     ensures within { IfOk result (λ n. (low ≤ n.value) × (n.value ≤ high)) }
 {
@@ -43,19 +36,25 @@ pub fn ranged_at(text: &[u8], at: usize, low: u64, high: u64) -> Result<Number, 
 }
 
 // The digits from a place on, and what they write.
-fn digits(text: &[u8], at: usize) -> Number
+fn digits(text: &[u8], at: usize) -> Parsed<u64>
     ensures { result ≡ digits_at at (drop at text.now) }
 {
+    let rest = behind(text, at);
     let mut value: u64 = 0;
-    let mut next = at;
-    while next < text.len() {
-        match mark_of(text[next]) {
-            Mark::Digit(digit) => {
-                value = value.saturating_mul(10).saturating_add(u64::from(digit));
-                next += 1;
-            }
-            _ => break,
-        }
+    for (done, byte) in rest.iter().enumerate() {
+        let Some(Mark::Digit(digit)) = mark_of(*byte) else {
+            let next = at + done;
+            return Parsed { value, next };
+        };
+        value = value.saturating_mul(10).saturating_add(u64::from(digit));
     }
-    Number { value, next }
+    let next = at + rest.len();
+    Parsed { value, next }
+}
+
+// The text from a place on.
+fn behind(text: &[u8], at: usize) -> &[u8]
+    ensures { result.now ≡ drop at text.now }
+{
+    text.get(at..).unwrap_or_default()
 }

@@ -2,7 +2,7 @@
 ghost use Rattle.std.specs.Prelude.{◌≡◌};
 ghost use Rattle.refusal.specs.Told.{told};
 ghost use Rattle.text.specs.Faults.{text_refusal};
-ghost use Rattle.text.specs.Words.{sign_at, word_at};
+ghost use Rattle.text.specs.Words.{is_at, sign_at, word_at};
 
 use crate::fault::TextFault;
 use crate::marks::{Sign, is_sign};
@@ -22,13 +22,17 @@ pub fn sign_at(text: &[u8], at: usize, sign: Sign) -> Result<usize, TextFault>
 pub fn word_at(text: &[u8], at: usize, word: &[u8]) -> Result<usize, TextFault>
     ensures { told text_refusal result ≡ word_at text.now at word.now }
 {
-    let mut next = at;
-    for byte in word {
-        if next < text.len() && text[next] == *byte {
-            next += 1;
-        } else {
-            return Err(TextFault::Byte(next));
+    for (done, byte) in word.iter().enumerate() {
+        if !is_byte(text, at + done, *byte) {
+            return Err(TextFault::Byte(at + done));
         }
     }
-    Ok(next)
+    Ok(at + word.len())
+}
+
+// Whether this byte stands at a place of the text.
+fn is_byte(text: &[u8], at: usize, byte: u8) -> bool
+    ensures { result ≡ is_at text.now at byte }
+{
+    text.get(at) == Some(&byte)
 }
