@@ -1,6 +1,5 @@
 -- A text is accepted exactly where it is that of a plan, and its records are then written.
 use Rattle.std.proofs.Common.{◌≡◌, ℕ, ◌≤◌, List, length, refl, ap, ◌∙◌, subst, arith}
-use Rattle.refusal.specs.declared.refusal.Refusal.{Refusal}
 use Rattle.refusal.specs.Told.{Told, answered, refused, and_then}
 use Rattle.text.specs.Faults.{longest_text}
 use Rattle.text.proofs.Steps.{same_answer}
@@ -40,15 +39,13 @@ walk_told (answered p) (refused f) before after e = absurd (let z : ◌≡◌ {A
 walk_told (refused f) (answered h) before after e = absurd (let z : ◌≡◌ {A = ℕ} 0 1 = cc in omega arith)
 walk_told (refused f) (refused g) before after e = let same : g ≡ f = cc in ap refused same
 
--- a text that was refused is refused whatever is told of its head
-pub refused_before : (read : Told Plan) (f : Refusal) → refused f ≡ and_then read (λ p. answered (head_of p)) → read ≡ refused f
-refused_before (answered p) f e = absurd (let z : ◌≡◌ {A = ℕ} 0 1 = cc in omega arith)
-refused_before (refused g) f e = let same : g ≡ f = cc in ap refused same
-
 -- the second walk, over a text that was accepted, writes the plan
-pub walk_writes : (text : List ℕ) (before after : Records) (t : Told PlanHead) (h : PlanHead) → answered h ≡ and_then (read_plan text (room_of before)) (λ p. answered (head_of p))
-    → left t after ≡ read_whole (read_plan text (room_of before)) before → after ≡ records_after (read_plan text (room_of before)) before
-walk_writes text before after t h known e = by (read_plan text (room_of before)) refl known e
+pub walk_writes : (text : List ℕ) (room : Counts) (before after : Records) (t : Told PlanHead) (h : PlanHead) → room ≡ room_of before → answered h ≡ and_then (read_plan text room) (λ p. answered (head_of p))
+    → left t after ≡ read_whole (read_plan text room) before → after ≡ records_after (read_plan text (room_of before)) before
+walk_writes text room before after t h has known e =
+    by (read_plan text (room_of before)) refl
+    (subst (λ r. answered h ≡ and_then (read_plan text r) (λ p. answered (head_of p))) has known)
+    (subst (λ r. left t after ≡ read_whole (read_plan text r) before) has e)
   where
     by : (read : Told Plan) → read_plan text (room_of before) ≡ read → answered h ≡ and_then read (λ p. answered (head_of p)) → left t after ≡ read_whole read before → after ≡ records_after read before
     by (answered p) is ok whole = written p t is whole

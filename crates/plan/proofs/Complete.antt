@@ -2,6 +2,7 @@
 use Rattle.std.proofs.Common.{◌≡◌, ℕ, zero, suc, ◌+◌, ◌-◌, ◌^◌, ◌<◌, ◌≤◌, eqb, ltb, leb, List, [], ◌∷◌, ◌++◌, length, drop, codes, decimal, sym, refl, ap, ◌∙◌, append_assoc, append-nil, arith, length-drop}
 use Rattle.std.proofs.lemmas.Bool.{cond-true, cond-false, eq-eqb, le-leb, lt-ltb}
 use Rattle.std.proofs.lemmas.Fmt.{decimal_digit}
+use Rattle.text.specs.declared.parsed.Parsed.{Parsed}
 use Rattle.refusal.specs.Told.{Told, answered}
 use Rattle.plant.specs.Belts.{Move, Outcome, no_outcome}
 use Rattle.plant.specs.Laws.{LawfulMove, LawfulOutcome}
@@ -18,7 +19,7 @@ use Rattle.plan.specs.declared.openings.Opening.{Opening}
 use Rattle.plan.specs.declared.openings.Opening.TheVariants.{Goal, State}
 use Rattle.plan.specs.declared.walk.Limits.{Limits}
 use Rattle.plan.specs.Format.{feed, forms_text, outcome_text, move_text, line_text, lines_text, plan_text}
-use Rattle.plan.specs.Forms.{Got, also, below, close_at, cost_at, forms_at, grow_move, grow_outcome, keyword_at, more_at, move_item, open_at, outcome_at, outcome_item, state_at}
+use Rattle.plan.specs.Forms.{also, below, close_at, cost_at, forms_at, grow_move, grow_outcome, keyword_at, more_at, move_item, open_at, outcome_at, outcome_item, state_at}
 use Rattle.plan.specs.Lines.{body_at, due_at, front_at, grow_line, head_at, line_at, lines_at, opening_at, opening_word, read_plan, rest_at, unused}
 use Rattle.plan.specs.Plans.{Plan}
 use Rattle.plan.proofs.Each.{Each, EachFits, LineFits, LineLawful, MoveFits, OutcomeFits, each_from}
@@ -43,7 +44,7 @@ open_back text at used room rest free e =
     let p = sign_back text at Open rest e in
     (p.0, then_answered _ p.1 ∙ cond-true (ltb used room) _ _ (lt-ltb used room free), p.2)
 
-module _ {A : Type 0} (item : Counts → ℕ → Told (Got A)) (grow : Counts → A → Counts) (text : List ℕ) (form : A → List ℕ) (L : A → Type 0) (F : Counts → A → Type 0)
+module _ {A : Type 0} (item : Counts → ℕ → Told (Parsed A)) (grow : Counts → A → Counts) (text : List ℕ) (form : A → List ℕ) (L : A → Type 0) (F : Counts → A → Type 0)
     (back : (u : Counts) (a : A) (at : ℕ) (rest : List ℕ) → L a → F u a → drop at text ≡ form a ++ rest → (next : ℕ) × (item u at ≡ answered (record { value = a; next = next })) × (drop next text ≡ rest)) where
   close_back : (at : ℕ) (rest : List ℕ) → drop at text ≡ codes ")" ++ rest → (next : ℕ) × (close_at {A = A} text at ≡ answered (record { value = []; next = next })) × (drop next text ≡ rest)
   close_back at rest e = let p = sign_back text at Close rest e in (p.0, then_answered _ p.1, p.2)
@@ -87,7 +88,7 @@ module _ (text : List ℕ) (limits : Limits) (small : limits.states ≤ 4096) wh
       let d = sign_back text c.0 Space ((d2 ++ codes ")") ++ rest) c.2 in
       let f = ranged_back 1 255 text d.0 o.weight (codes ")" ++ rest) (omega arith) ok.weighs ok.light refl (d.2 ∙ append_assoc d2 (codes ")") rest) in
       let g = sign_back text f.0 Close rest f.2 in
-      let whole : outcome_at text limits u at ≡ answered (record { state = o.state; weight = o.weight; next = g.0 }) =
+      let whole : outcome_at text limits u at ≡ answered (record { value = record { state = o.state; weight = o.weight }; next = g.0 }) =
       then_answered _ a.1 ∙ then_answered _ b.1 ∙ then_answered _ c.1 ∙ then_answered _ d.1 ∙ then_answered _ f.1 ∙ then_answered _ g.1 in
       (g.0, then_answered _ whole, g.2)
 
@@ -99,7 +100,7 @@ module _ (text : List ℕ) (limits : Limits) (small : limits.states ≤ 4096) wh
       let a = open_back text at u.moves limits.room.moves _ fit.0 e in
       let b = keyword_back text a.0 (codes "move") ((d ++ os) ++ rest) a.2 in
       let c = ranged_back 1 1000 text b.0 m.cost (os ++ rest) (omega arith) ok.costs ok.cheap (no_digit outcome_text m.outcomes rest) (b.2 ∙ append_assoc d os rest) in
-      let front : cost_at text limits u at ≡ answered (record { cost = m.cost; next = c.0 }) = then_answered _ a.1 ∙ then_answered _ b.1 ∙ then_answered _ c.1 in
+      let front : cost_at text limits u at ≡ answered (record { value = m.cost; next = c.0 }) = then_answered _ a.1 ∙ then_answered _ b.1 ∙ then_answered _ c.1 in
       let o = forms_back (outcome_item text limits) grow_outcome text outcome_text (LawfulOutcome limits.states) (OutcomeFits limits.room) outcome_back u m.outcomes c.0 rest
       (each_from (LawfulOutcome limits.states) m.outcomes no_outcome ok.each) fit.1 ok.some ok.few c.2 in
       (o.0, then_answered _ front ∙ then_answered _ o.1, o.2)
@@ -110,7 +111,7 @@ module _ (text : List ℕ) (limits : Limits) (small : limits.states ≤ 4096) wh
       let p = number_back text at due rest low z e in
       (p.0, then_answered _ p.1 ∙ cond-true (eqb due due) _ _ (eq-eqb due due refl), p.2)
 
-  opening_back : (w : Opening) (at : ℕ) (rest : List ℕ) → drop at text ≡ opening_word w ++ rest → (next : ℕ) × (opening_at text at ≡ answered (record { word = w; next = next })) × (drop next text ≡ rest)
+  opening_back : (w : Opening) (at : ℕ) (rest : List ℕ) → drop at text ≡ opening_word w ++ rest → (next : ℕ) × (opening_at text at ≡ answered (record { value = w; next = next })) × (drop next text ≡ rest)
   opening_back Goal at rest e =
       let p = word_back text at (codes "goal") rest e in
       (p.0, cond-false (is_at text at 115) _ _ (other_byte text at 103 115 _ e (λ z. omega arith)) ∙ then_answered _ p.1, p.2)
@@ -120,7 +121,7 @@ module _ (text : List ℕ) (limits : Limits) (small : limits.states ≤ 4096) wh
 
   -- a line up to the number of its state
   front_back : (w : Opening) (u : Counts) (at : ℕ) (rest : List ℕ) → u.states < 2 ^ 64 - 1 → u.states < limits.room.states → run rest ≡ 0
-      → drop at text ≡ 40 ∷ (opening_word w ++ (32 ∷ (decimal u.states ++ rest))) → (next : ℕ) × (front_at text limits u at ≡ answered (record { word = w; next = next })) × (drop next text ≡ rest)
+      → drop at text ≡ 40 ∷ (opening_word w ++ (32 ∷ (decimal u.states ++ rest))) → (next : ℕ) × (front_at text limits u at ≡ answered (record { value = w; next = next })) × (drop next text ≡ rest)
   front_back w u at rest low free z e =
       let a = open_back text at u.states limits.room.states _ free e in
       let b = opening_back w a.0 (32 ∷ (decimal u.states ++ rest)) a.2 in
@@ -157,7 +158,7 @@ module _ (text : List ℕ) (limits : Limits) (small : limits.states ≤ 4096) wh
 
 head_back : (text : List ℕ) (count start : ℕ) (rest : List ℕ) → 1 ≤ count → count ≤ 4096 → start < count
     → text ≡ codes "(plan 1 " ++ (decimal count ++ (codes " " ++ (decimal start ++ (codes ")" ++ (feed ++ rest)))))
-    → (next : ℕ) × (head_at text ≡ answered (record { count = count; start = start; next = next })) × (drop next text ≡ rest)
+    → (next : ℕ) × (head_at text ≡ answered (record { value = record { count = count; start = start }; next = next })) × (drop next text ≡ rest)
 head_back text count start rest some few less e =
     let one : decimal 1 ≡ codes "1" = decimal_digit 1 (omega arith) in
     let x5 = codes ")" ++ (feed ++ rest) in

@@ -3,9 +3,7 @@ pub mod Complete
 pub mod Counted
 pub mod Each
 pub mod Limits
-pub mod Opened
 pub mod Placed
-pub mod Put
 pub mod Sound
 pub mod Spans
 pub mod Walked

@@ -1,6 +1,6 @@
 -- Where the records of a plan stand once they are written.
 use Rattle.std.proofs.Common.{◌≡◌, ℕ, suc, ◌+◌, ◌≤◌, List, [], ◌∷◌, ◌++◌, map, length, drop, set, sym, refl, ap, ◌∙◌, append_assoc, zero-add, add-one, arith, length-append}
-use lib.Seq.{sets, sets-eq}
+use Rattle.std.proofs.Math.Seq.{sets, sets-eq}
 use Rattle.std.proofs.lemmas.List.{length-map}
 use Rattle.plant.specs.Belts.{Move, Outcome}
 use Rattle.plan.specs.declared.counts.Counts.{Counts}

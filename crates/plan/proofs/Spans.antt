@@ -4,13 +4,12 @@ use Rattle.std.proofs.lemmas.Bool.{cases_Bool, cond-true, cond-false, eqb-true, 
 use Rattle.refusal.specs.Told.{answered, refused}
 use Rattle.text.specs.declared.marks.Sign.{Sign}
 use Rattle.text.specs.declared.marks.Sign.TheVariants.{Open, Space}
-use Rattle.text.specs.declared.numbers.Number.{Number}
+use Rattle.text.specs.declared.parsed.Parsed.{Parsed}
 use Rattle.text.specs.Marks.{sign_byte}
 use Rattle.text.specs.Numbers.{number_at, ranged_at}
 use Rattle.text.specs.Words.{is_at, sign_at, word_at}
 use Rattle.text.proofs.Spelled.{number_sound, ranged_sound, word_sound}
 use Rattle.text.proofs.Steps.{same_answer, then_parts}
-use Rattle.plan.specs.declared.openings.LineWord.{LineWord}
 use Rattle.plan.specs.declared.openings.Opening.{Opening}
 use Rattle.plan.specs.declared.openings.Opening.TheVariants.{Goal, State}
 use Rattle.plan.specs.Faults.{bad_state, table_full}
@@ -36,15 +35,15 @@ keyword_spans text at word next e =
     then_parts (word_at text at word) _ next e (λ end e1 e2.
     spans_then word (codes " ") (word_spans text at word end e1) (sign_spans text end Space next e2))
 
-below_parts : (states at : ℕ) (n w : Number) → below states at n ≡ answered w → (n ≡ w) × (w.value < states)
+below_parts : (states at : ℕ) (n w : Parsed ℕ) → below states at n ≡ answered w → (n ≡ w) × (w.value < states)
 below_parts states at n w e =
     ⊎_elim
     (λ y. let same : n ≡ w = same_answer n w (sym (cond-true (ltb n.value states) (answered n) (refused (bad_state at)) y) ∙ e) in
-    (same, subst (λ (m : Number). m.value < states) same (ltb-true n.value states y)))
+    (same, subst (λ (m : Parsed ℕ). m.value < states) same (ltb-true n.value states y)))
     (λ y. let f = cond-false (ltb n.value states) (answered n) (refused (bad_state at)) y in absurd (let z : ◌≡◌ {A = ℕ} 0 1 = cc in omega arith))
     (cases_Bool (ltb n.value states))
 
-pub state_spans : (states : ℕ) (text : List ℕ) (at : ℕ) (w : Number) → states < 2 ^ 64 - 1 → state_at states text at ≡ answered w → Spans text at (decimal w.value) w.next × (w.value < states)
+pub state_spans : (states : ℕ) (text : List ℕ) (at : ℕ) (w : Parsed ℕ) → states < 2 ^ 64 - 1 → state_at states text at ≡ answered w → Spans text at (decimal w.value) w.next × (w.value < states)
 state_spans states text at w small e =
     then_parts (number_at text at) (below states at) w e (λ n e1 e2.
     let p = below_parts states at n w e2 in
@@ -59,27 +58,27 @@ open_spans text at used room inside e =
     (λ y. let f = cond-false (ltb used room) (answered next) (refused (table_full at)) y in absurd (let z : ◌≡◌ {A = ℕ} 0 1 = cc in omega arith))
     (cases_Bool (ltb used room)))
 
-opened_spans : (w : Opening) (text : List ℕ) (at : ℕ) (o : LineWord) → opened w text at ≡ answered o → Spans text at (opening_word o.word) o.next
+opened_spans : (w : Opening) (text : List ℕ) (at : ℕ) (o : Parsed Opening) → opened w text at ≡ answered o → Spans text at (opening_word o.value) o.next
 opened_spans w text at o e =
     then_parts (word_at text at (opening_word w)) _ o e (λ next e1 e2.
-    subst (λ (x : LineWord). Spans text at (opening_word x.word) x.next) (same_answer _ o e2) (word_spans text at (opening_word w) next e1))
+    subst (λ (x : Parsed Opening). Spans text at (opening_word x.value) x.next) (same_answer _ o e2) (word_spans text at (opening_word w) next e1))
 
-pub ranged_spans : (low high : ℕ) (text : List ℕ) (at : ℕ) (w : Number) → high < 2 ^ 64 - 1 → ranged_at low high text at ≡ answered w → Spans text at (decimal w.value) w.next × (low ≤ w.value) × (w.value ≤ high)
+pub ranged_spans : (low high : ℕ) (text : List ℕ) (at : ℕ) (w : Parsed ℕ) → high < 2 ^ 64 - 1 → ranged_at low high text at ≡ answered w → Spans text at (decimal w.value) w.next × (low ≤ w.value) × (w.value ≤ high)
 ranged_spans low high text at w small e = let p = ranged_sound low high text at w small e in (record { stands = p.0 }, p.1, p.2)
 
-pub opening_spans : (text : List ℕ) (at : ℕ) (o : LineWord) → opening_at text at ≡ answered o → Spans text at (opening_word o.word) o.next
+pub opening_spans : (text : List ℕ) (at : ℕ) (o : Parsed Opening) → opening_at text at ≡ answered o → Spans text at (opening_word o.value) o.next
 opening_spans text at o e =
     ⊎_elim
     (λ y. opened_spans State text at o (sym (cond-true (is_at text at 115) (opened State text at) (opened Goal text at) y) ∙ e))
     (λ y. opened_spans Goal text at o (sym (cond-false (is_at text at 115) (opened State text at) (opened Goal text at) y) ∙ e))
     (cases_Bool (is_at text at 115))
 
-pub due_spans : (due : ℕ) (text : List ℕ) (at : ℕ) (w : Number) → due < 2 ^ 64 - 1 → due_at due text at ≡ answered w → Spans text at (decimal due) w.next
+pub due_spans : (due : ℕ) (text : List ℕ) (at : ℕ) (w : Parsed ℕ) → due < 2 ^ 64 - 1 → due_at due text at ≡ answered w → Spans text at (decimal due) w.next
 due_spans due text at w small e =
     then_parts (number_at text at) _ w e (λ n e1 e2.
     ⊎_elim
     (λ y. let same : n ≡ w = same_answer n w (sym (cond-true (eqb n.value due) (answered n) (refused (bad_state at)) y) ∙ e2) in
-    let is : w.value ≡ due = subst (λ (m : Number). m.value ≡ due) same (eqb-true n.value due y) in
+    let is : w.value ≡ due = subst (λ (m : Parsed ℕ). m.value ≡ due) same (eqb-true n.value due y) in
     record { stands = number_sound text at w (e1 ∙ ap answered same) (omega arith) ∙ ap (λ (v : ℕ). decimal v ++ drop w.next text) is })
     (λ y. let f = cond-false (eqb n.value due) (answered n) (refused (bad_state at)) y in absurd (let z : ◌≡◌ {A = ℕ} 0 1 = cc in omega arith))
     (cases_Bool (eqb n.value due)))

@@ -1,6 +1,7 @@
 -- A row of forms that is read and written one at a time: what is left gives the whole.
-use Rattle.std.proofs.Common.{◌≡◌, ℕ, zero, suc, ◌+◌, ◌-◌, ◌<◌, true, false, ◌⊎◌, List, sym, refl, ap, ◌∙◌, inl, inr, arith}
+use Rattle.std.proofs.Common.{◌≡◌, ℕ, zero, suc, ◌+◌, ◌<◌, true, false, ◌⊎◌, List, sym, refl, ap, ◌∙◌, inl, inr, arith}
 use Rattle.std.proofs.lemmas.Bool.{cond-true, cond-false}
+use Rattle.text.specs.declared.parsed.Parsed.{Parsed}
 use Rattle.refusal.specs.declared.refusal.Refusal.{Refusal}
 use Rattle.refusal.specs.Told.{Told, answered, refused, and_then}
 use Rattle.text.specs.declared.marks.Sign.TheVariants.{Space, Close}
@@ -10,7 +11,7 @@ use Rattle.text.proofs.Steps.{same_answer, then_answered, then_refused}
 use Rattle.plan.specs.declared.counts.Counts.{Counts}
 use Rattle.plan.specs.declared.walk.Limits.{Limits}
 use Rattle.plan.specs.declared.walk.Past.{Past}
-use Rattle.plan.specs.Forms.{Got, also, close_at, forms_at, grow_all, more_at}
+use Rattle.plan.specs.Forms.{also, close_at, forms_at, grow_all, more_at}
 use Rattle.plan.specs.Lines.{grow_line, line_at, lines_at}
 use Rattle.plan.specs.Records.{Records}
 use Rattle.plan.specs.Walk.{Left, put_all, put_line, walked}
@@ -21,16 +22,16 @@ stand past r = answered (record { answer = past; held = r })
 
 module _ {A : Type 0} (grow : Counts → A → Counts) (put : Counts → A → Records → Records) where
   -- all of a row, counted and written
-  abbrev pub walked_all : Told (Got (List A)) → Counts → Records → Told (Left Past)
+  abbrev pub walked_all : Told (Parsed (List A)) → Counts → Records → Told (Left Past)
   walked_all = walked (grow_all grow) (put_all grow put)
 
   -- one in front of a row is counted and written before the row
-  pub also_walked : (a : A) (more : Told (Got (List A))) (u : Counts) (r : Records) → walked_all (also a more) u r ≡ walked_all more (grow u a) (put u a r)
+  pub also_walked : (a : A) (more : Told (Parsed (List A))) (u : Counts) (r : Records) → walked_all (also a more) u r ≡ walked_all more (grow u a) (put u a r)
   also_walked a (answered g) u r = refl
   also_walked a (refused f) u r = refl
 
   -- the same where the one is yet to be read
-  pub one_walked : (read : Told (Got A)) (rest : Counts → ℕ → Told (Got (List A))) (u : Counts) (r : Records) (past : Past) (new : Records) → stand past new ≡ walked grow put read u r
+  pub one_walked : (read : Told (Parsed A)) (rest : Counts → ℕ → Told (Parsed (List A))) (u : Counts) (r : Records) (past : Past) (new : Records) → stand past new ≡ walked grow put read u r
       → walked_all (rest past.used past.next) past.used new ≡ walked_all (and_then read (λ g. also g.value (rest (grow u g.value) g.next))) u r
   one_walked (answered g) rest u r past new e =
       let same = same_answer _ _ e in
@@ -41,12 +42,12 @@ module _ {A : Type 0} (grow : Counts → A → Counts) (put : Counts → A → R
   one_walked (refused f) rest u r past new e = absurd (let z : ◌≡◌ {A = ℕ} 0 1 = cc in omega arith)
 
   -- one that is refused refuses the row
-  pub one_refused : (read : Told (Got A)) (rest : Counts → ℕ → Told (Got (List A))) (u : Counts) (r : Records) (f : Refusal) → refused f ≡ walked grow put read u r
+  pub one_refused : (read : Told (Parsed A)) (rest : Counts → ℕ → Told (Parsed (List A))) (u : Counts) (r : Records) (f : Refusal) → refused f ≡ walked grow put read u r
       → refused f ≡ walked_all (and_then read (λ g. also g.value (rest (grow u g.value) g.next))) u r
   one_refused (answered g) rest u r f e = absurd (let z : ◌≡◌ {A = ℕ} 0 1 = cc in omega arith)
   one_refused (refused d) rest u r f e = e
 
-  module _ (item : Counts → ℕ → Told (Got A)) (text : List ℕ) where
+  module _ (item : Counts → ℕ → Told (Parsed A)) (text : List ℕ) where
     -- the first form of a row
     pub first_walked : (u : Counts) (at first : ℕ) (r : Records) (past : Past) (new : Records) → answered first ≡ sign_at text at Space → stand past new ≡ walked grow put (item u first) u r
         → walked_all (more_at item grow 15 text past.used past.next) past.used new ≡ walked_all (forms_at item grow text u at) u r
@@ -58,12 +59,12 @@ module _ {A : Type 0} (grow : Counts → A → Counts) (put : Counts → A → R
     first_refused u at first r f e h = one_refused (item u first) (more_at item grow 15 text) u r f h ∙ sym (ap (λ x. walked_all x u r) (then_answered _ (sym e)))
 
     -- one form more of a row
-    pub more_walked : (k : ℕ) (u : Counts) (at : ℕ) (r : Records) (past : Past) (new : Records) → 0 < k → is_at text at (sign_byte Space) ≡ true → stand past new ≡ walked grow put (item u (at + 1)) u r
-        → walked_all (more_at item grow (k - 1) text past.used past.next) past.used new ≡ walked_all (more_at item grow k text u at) u r
-    more_walked zero u at r past new h space e = absurd (omega arith)
-    more_walked (suc k) u at r past new h space e =
-        let less : suc k - 1 ≡ k = omega arith in
-        ap (λ (j : ℕ). walked_all (more_at item grow j text past.used past.next) past.used new) less
+    pub more_walked : (k j : ℕ) (u : Counts) (at : ℕ) (r : Records) (past : Past) (new : Records) → k ≡ j + 1 → is_at text at (sign_byte Space) ≡ true → stand past new ≡ walked grow put (item u (at + 1)) u r
+        → walked_all (more_at item grow j text past.used past.next) past.used new ≡ walked_all (more_at item grow k text u at) u r
+    more_walked zero j u at r past new h space e = absurd (omega arith)
+    more_walked (suc k) j u at r past new h space e =
+        let same : j ≡ k = omega arith in
+        ap (λ (i : ℕ). walked_all (more_at item grow i text past.used past.next) past.used new) same
         ∙ one_walked (item u (at + 1)) (more_at item grow k text) u r past new e
         ∙ sym (ap (λ x. walked_all x u r) (cond-true (is_at text at (sign_byte Space)) _ (close_at text at) space))
 
@@ -88,12 +89,12 @@ module _ {A : Type 0} (grow : Counts → A → Counts) (put : Counts → A → R
 
 -- one line more
 module _ (text : List ℕ) (limits : Limits) where
-  pub line_walked : (k : ℕ) (u : Counts) (at : ℕ) (r : Records) (past : Past) (new : Records) → 0 < k → stand past new ≡ walked grow_line put_line (line_at text limits u at) u r
-      → walked_all grow_line put_line (lines_at (k - 1) text limits past.used past.next) past.used new ≡ walked_all grow_line put_line (lines_at k text limits u at) u r
-  line_walked zero u at r past new h e = absurd (omega arith)
-  line_walked (suc k) u at r past new h e =
-      let less : suc k - 1 ≡ k = omega arith in
-      ap (λ (j : ℕ). walked_all grow_line put_line (lines_at j text limits past.used past.next) past.used new) less
+  pub line_walked : (k j : ℕ) (u : Counts) (at : ℕ) (r : Records) (past : Past) (new : Records) → k ≡ j + 1 → stand past new ≡ walked grow_line put_line (line_at text limits u at) u r
+      → walked_all grow_line put_line (lines_at j text limits past.used past.next) past.used new ≡ walked_all grow_line put_line (lines_at k text limits u at) u r
+  line_walked zero j u at r past new h e = absurd (omega arith)
+  line_walked (suc k) j u at r past new h e =
+      let same : j ≡ k = omega arith in
+      ap (λ (i : ℕ). walked_all grow_line put_line (lines_at i text limits past.used past.next) past.used new) same
       ∙ one_walked grow_line put_line (line_at text limits u at) (lines_at k text limits) u r past new e
 
   pub line_refused : (k : ℕ) (u : Counts) (at : ℕ) (r : Records) (f : Refusal) → 0 < k → refused f ≡ walked grow_line put_line (line_at text limits u at) u r

@@ -21,6 +21,11 @@ pub record SameTables (t u : Tables) : Type 0 where
   pub moves : t.moves.ghost_name ≡ u.moves.ghost_name
   pub outcomes : t.outcomes.ghost_name ≡ u.outcomes.ghost_name
 
+-- from t to u the same three tables, which hold r then
+pub record Becomes (t u : Tables) (r : Records) : Type 0 where
+  pub held : held u ≡ r
+  pub same : SameTables u t
+
 -- a state is written; past the table's end nothing is
 abbrev pub with_state : Records → ℕ → StateRecord → Records
 with_state r place s = record { states = slice_set r.states place s; moves = r.moves; outcomes = r.outcomes }

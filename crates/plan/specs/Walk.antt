@@ -1,15 +1,17 @@
 -- What a walk through a text leaves: how far it went, and what the tables hold then. A refused walk says nothing of them.
-use Rattle.std.specs.Prelude.{List, [], ◌∷◌}
+use Rattle.std.specs.Prelude.{◌≡◌, List, [], ◌∷◌}
 use Rattle.refusal.specs.Told.{Told, answered, and_then}
 use Rattle.plant.specs.Belts.{Move, Outcome}
+use Rattle.text.specs.declared.parsed.Parsed.{Parsed}
 use Rattle.plan.specs.declared.counts.Counts.{Counts}
 use Rattle.plan.specs.declared.records.PlanHead.{PlanHead}
 use Rattle.plan.specs.declared.walk.Past.{Past}
-use Rattle.plan.specs.Forms.{Got, grow_all, grow_move, grow_outcome}
+use Rattle.plan.specs.Forms.{grow_all, grow_move, grow_outcome}
 use Rattle.plan.specs.Lines.{grow_line, head_of, unused}
 use Rattle.plan.specs.Plans.{Plan}
 use Rattle.plan.specs.Records.{Records, outcome_record}
-use Rattle.plan.specs.Tables.{with_move, with_outcome, with_state}
+use Rattle.plan.specs.declared.tables.Tables.{Tables}
+use Rattle.plan.specs.Tables.{SameTables, held, with_move, with_outcome, with_state}
 
 -- an answer, and what the tables hold with it
 pub record Left (A : Type 0) : Type 0 where
@@ -20,8 +22,13 @@ pub record Left (A : Type 0) : Type 0 where
 abbrev pub left : {A : Type 0} → Told A → Records → Told (Left A)
 left t r = and_then t (λ a. answered (record { answer = a; held = r }))
 
+-- what a call leaves in tables t, that are u then: what it told with what they hold, and the same three tables
+pub record Leaves {A : Type 0} (told : Told A) (t u : Tables) (expected : Records → Told (Left A)) : Type 0 where
+  pub left : left told (held u) ≡ expected (held t)
+  pub same : SameTables u t
+
 -- what is read is counted and written, from so many used records on
-abbrev pub walked : {A : Type 0} → (Counts → A → Counts) → (Counts → A → Records → Records) → Told (Got A) → Counts → Records → Told (Left Past)
+abbrev pub walked : {A : Type 0} → (Counts → A → Counts) → (Counts → A → Records → Records) → Told (Parsed A) → Counts → Records → Told (Left Past)
 walked grow put read used r = and_then read (λ g. answered (record { answer = record { used = grow used g.value; next = g.next }; held = put used g.value r }))
 
 -- each of a row is written in its turn

@@ -1,7 +1,9 @@
 //! How many records there are.
+ghost use Rattle.std.specs.Prelude.{◌≡◌};
+ghost use Rattle.plan.specs.Lines.{unused};
 
 /// A number of records in each of the three tables: how many are used, or how many places there are.
-#[derive(Clone, Copy, PartialEq, Eq, Debug)]
+#[derive(Clone, Copy, PartialEq, Eq, Debug, Default)]
 pub struct Counts {
     /// Records of states.
     pub states: usize,
@@ -9,4 +11,13 @@ pub struct Counts {
     pub moves: usize,
     /// Records of outcomes.
     pub outcomes: usize,
+}
+
+impl Counts {
+    // No record.
+    pub(crate) fn none() -> Counts
+        ensures { result ≡ unused }
+    {
+        Counts::default()
+    }
 }

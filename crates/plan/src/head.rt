@@ -6,25 +6,15 @@ ghost use Rattle.refusal.specs.Told.{told};
 
 use crate::fault::PlanFault;
 use crate::forms::{keyword_at, state_at};
+use crate::records::PlanHead;
 use plant::MOST_STATES;
-use text::{Sign, ranged_at, sign_at};
+use text::{Parsed, Sign, ranged_at, sign_at};
 
 // The version of the format.
 const VERSION: u64 = 1;
 
-/// What the first line says, and the place after it.
-#[derive(Clone, Copy)]
-pub struct Head {
-    /// The count of states.
-    pub count: u16,
-    /// The start.
-    pub start: u16,
-    /// The place after the line feed.
-    pub next: usize,
-}
-
 // `(plan 1 N S)` and its line feed.
-pub(crate) fn head_at(text: &[u8]) -> Result<Head, PlanFault>
+pub(crate) fn head_at(text: &[u8]) -> Result<Parsed<PlanHead>, PlanFault>
     ensures { told plan_refusal result ≡ head_at text.now }
 {
     let inside = sign_at(text, 0, Sign::Open)?;
@@ -37,9 +27,9 @@ pub(crate) fn head_at(text: &[u8]) -> Result<Head, PlanFault>
     let start = state_at(text, third, states)?;
     let close = sign_at(text, start.next, Sign::Close)?;
     let next = sign_at(text, close, Sign::Feed)?;
-    Ok(Head {
+    let value = PlanHead {
         count: states,
         start: start.value as u16,
-        next,
-    })
+    };
+    Ok(Parsed { value, next })
 }

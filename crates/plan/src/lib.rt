@@ -10,9 +10,9 @@ mod fault;
 mod forms;
 mod head;
 mod lines;
-mod lists;
 mod openings;
 mod records;
+mod rows;
 mod tables;
 mod walk;
 

@@ -1,7 +1,8 @@
 //! The three tables that a plan is written into.
 ghost use Rattle.std.specs.Prelude.{◌≡◌, slice_set};
-ghost use Rattle.plan.specs.Tables.{SameTables, held, with_move, with_outcome, with_state};
+ghost use Rattle.plan.specs.Tables.{Becomes, held, room_of, with_move, with_outcome, with_state};
 
+use crate::counts::Counts;
 use crate::records::{MoveRecord, OutcomeRecord, StateRecord};
 
 /// Three tables, lent for writing. A record whose place lies past the end of its table is not written.
@@ -15,59 +16,74 @@ pub struct Tables<'a> {
     pub outcomes: &'a mut [OutcomeRecord],
 }
 
-impl<'a> Tables<'a> {
-    // Writes a state, whose moves stand from `first` up to `end`.
-    pub(crate) fn put_state(&mut self, place: usize, first: usize, end: usize)
-        ensures held { held self.new ≡ with_state (held self.old) place (record { first = first; end = end }) }
-        ensures same { SameTables self.new self.old }
+impl Tables<'_> {
+    // How many places the tables have.
+    pub(crate) fn room(&self) -> Counts
+        ensures { result ≡ room_of (held self.now) }
     {
-        put_state(self.states, place, first, end);
+        Counts {
+            states: self.states.len(),
+            moves: self.moves.len(),
+            outcomes: self.outcomes.len(),
+        }
     }
 
-    // Writes a move, whose outcomes stand from `first` up to `end`.
-    pub(crate) fn put_move(&mut self, place: usize, cost: u16, first: usize, end: usize)
-        ensures held { held self.new ≡ with_move (held self.old) place (record { cost = cost; first = first; end = end }) }
-        ensures same { SameTables self.new self.old }
+    // Writes a state at a place.
+    pub(crate) fn put_state(&mut self, place: usize, state: StateRecord)
+        ensures { Becomes self.old self.new (with_state (held self.old) place state) }
     {
-        put_move(self.moves, place, cost, first, end);
+        put(self.states, place, state);
     }
 
-    // Writes an outcome.
-    pub(crate) fn put_outcome(&mut self, place: usize, state: u16, weight: u8)
-        ensures held { held self.new ≡ with_outcome (held self.old) place (record { state = state; weight = weight }) }
-        ensures same { SameTables self.new self.old }
+    // Writes a move at a place.
+    pub(crate) fn put_move(&mut self, place: usize, chosen: MoveRecord)
+        ensures { Becomes self.old self.new (with_move (held self.old) place chosen) }
     {
-        put_outcome(self.outcomes, place, state, weight);
+        put(self.moves, place, chosen);
+    }
+
+    // Writes an outcome at a place.
+    pub(crate) fn put_outcome(&mut self, place: usize, outcome: OutcomeRecord)
+        ensures { Becomes self.old self.new (with_outcome (held self.old) place outcome) }
+    {
+        put(self.outcomes, place, outcome);
     }
 }
 
-// Writes a state into its table, field by field.
-fn put_state(table: &mut [StateRecord], place: usize, first: usize, end: usize)
-    ensures { table.new ≡ slice_set table.old place (record { first = first; end = end }) }
-{
-    if place < table.len() {
-        table[place].first = first;
-        table[place].end = end;
+// A record of a table, which is written field by field.
+trait Record: Copy {
+    // Takes over the fields of another record.
+    fn write(&mut self, other: Self)
+        ensures { self.new ≡ other };
+}
+
+impl Record for StateRecord {
+    fn write(&mut self, other: StateRecord) {
+        self.first = other.first;
+        self.end = other.end;
     }
 }
 
-// Writes a move into its table, field by field.
-fn put_move(table: &mut [MoveRecord], place: usize, cost: u16, first: usize, end: usize)
-    ensures { table.new ≡ slice_set table.old place (record { cost = cost; first = first; end = end }) }
-{
-    if place < table.len() {
-        table[place].cost = cost;
-        table[place].first = first;
-        table[place].end = end;
+impl Record for MoveRecord {
+    fn write(&mut self, other: MoveRecord) {
+        self.cost = other.cost;
+        self.first = other.first;
+        self.end = other.end;
     }
 }
 
-// Writes an outcome into its table, field by field.
-fn put_outcome(table: &mut [OutcomeRecord], place: usize, state: u16, weight: u8)
-    ensures { table.new ≡ slice_set table.old place (record { state = state; weight = weight }) }
+impl Record for OutcomeRecord {
+    fn write(&mut self, other: OutcomeRecord) {
+        self.state = other.state;
+        self.weight = other.weight;
+    }
+}
+
+// Writes a record at a place of its table; past the table's end nothing is written.
+fn put<R: Record>(table: &mut [R], place: usize, written: R)
+    ensures { table.new ≡ slice_set table.old place written }
 {
     if place < table.len() {
-        table[place].state = state;
-        table[place].weight = weight;
+        table[place].write(written);
     }
 }

@@ -18,3 +18,12 @@ pub struct Limits {
     /// The places that each table has.
     pub room: Counts,
 }
+
+/// A plan text, and what its lines are held to.
+#[derive(Clone, Copy)]
+pub struct Source<'a> {
+    /// The text.
+    pub text: &'a [u8],
+    /// What its lines are held to.
+    pub limits: Limits,
+}
