@@ -1,7 +1,7 @@
 //! What a plan is held as: a record for each state, each move and each outcome, in three tables.
 
 /// A state: its moves stand in the table of moves, from the place `first` up to the place before `end`.
-#[derive(Clone, Copy, PartialEq, Eq, Debug)]
+#[derive(Clone, Copy, PartialEq, Eq, Debug, Default)]
 pub struct StateRecord {
     /// The place of the first move.
     pub first: usize,
@@ -10,7 +10,7 @@ pub struct StateRecord {
 }
 
 /// A move: its outcomes stand in the table of outcomes, from the place `first` up to the place before `end`.
-#[derive(Clone, Copy, PartialEq, Eq, Debug)]
+#[derive(Clone, Copy, PartialEq, Eq, Debug, Default)]
 pub struct MoveRecord {
     /// The cost, in units.
     pub cost: u16,
@@ -21,7 +21,7 @@ pub struct MoveRecord {
 }
 
 /// An outcome: the state that it leads to, and its weight.
-#[derive(Clone, Copy, PartialEq, Eq, Debug)]
+#[derive(Clone, Copy, PartialEq, Eq, Debug, Default)]
 pub struct OutcomeRecord {
     /// The state.
     pub state: u16,
@@ -30,7 +30,7 @@ pub struct OutcomeRecord {
 }
 
 /// What the first line of a plan says of its states.
-#[derive(Clone, Copy, PartialEq, Eq, Debug)]
+#[derive(Clone, Copy, PartialEq, Eq, Debug, Default)]
 pub struct PlanHead {
     /// How many states there are.
     pub count: u16,

@@ -5,7 +5,7 @@ use Rattle.std.proofs.lemmas.List.FromFn.{fill_by_all}
 use Rattle.std.proofs.lemmas.List.{get_or_append_left, get_or-map, length-map}
 use Rattle.std.proofs.lemmas.Bool.{cases_lt, cond-true, cond-false, le-ltb, lt-ltb}
 use Rattle.refusal.specs.Told.{Told, answered, refused, and_then}
-use Rattle.plant.specs.Belts.{Move, Outcome, no_move, no_outcome}
+use Rattle.plant.specs.Belts.{Belt, Move, Outcome, no_move, no_outcome}
 use Rattle.plant.specs.Laws.{LawfulMove, LawfulOutcome}
 use Rattle.plan.specs.declared.records.StateRecord.{StateRecord}
 use Rattle.plan.specs.declared.records.MoveRecord.{MoveRecord}
@@ -161,9 +161,10 @@ module _ (p : Plan) (before : Records) (laws : LawfulPlan p) where
       ap (λ (n : ℕ). belt_in n p.start new) a
       ∙ (λ i. record { count = p.count; start = b i; goal = λ s. goal_read s i; moves = λ s. moves_read s i })
 
-pub makes_plan : (head : PlanHead) (records : Records) → MakesPlan head records (table_belt head.count head.start records)
-makes_plan head records p before laws at is =
-    (λ i. table_belt (at i).count (at i).start (is i)) ∙ loaded_belt p before laws
+pub makes_plan : (head : PlanHead) (records : Records) (belt : Belt) → belt ≡ table_belt head.count head.start records → MakesPlan head records belt
+makes_plan head records belt made = record {
+  of_plan = λ p before laws at is. made ∙ (λ i. table_belt (at i).count (at i).start (is i)) ∙ loaded_belt p before laws;
+}
 
 -- a load, from what was read
 load_means : (text : List ℕ) (before after : Records) (read : Told Plan) → read_plan text (room_of before) ≡ read → after ≡ records_after read before → Loads text before (and_then read (λ p. answered (head_of p))) after

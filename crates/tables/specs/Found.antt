@@ -43,13 +43,13 @@ outcome_found n (Some r) = outcome_in n r
 pub record FoundState (p : TablePlant) (s : ℕ) (found : Option StateRecord) : Type 0 where
   pub goal : (belt_of p).goal s ≡ goal_found found
   pub count : move_count (belt_of p) s ≡ move_count_found found
-  pub moves : (belt_of p).moves s ≡ moves_found (states_in p.count) (records_of p) found
+  pub moves : (belt_of p).moves s ≡ moves_found (states_in p.head.count) (records_of p) found
 
 -- the record that was found at number m of that state
 pub record FoundMove (p : TablePlant) (s m : ℕ) (found : Option MoveRecord) : Type 0 where
-  pub is : move_at (belt_of p) s m ≡ move_found (states_in p.count) (records_of p).outcomes found
+  pub is : move_at (belt_of p) s m ≡ move_found (states_in p.head.count) (records_of p).outcomes found
   pub count : outcome_count (belt_of p) s m ≡ outcome_count_found found
 
 -- the record that was found at number o of that move
 pub record FoundOutcome (p : TablePlant) (s m o : ℕ) (found : Option OutcomeRecord) : Type 0 where
-  pub is : outcome_at (belt_of p) s m o ≡ outcome_found (states_in p.count) found
+  pub is : outcome_at (belt_of p) s m o ≡ outcome_found (states_in p.head.count) found

@@ -29,5 +29,5 @@ Loads text before (answered head) after = (p : Plan) × Loaded p text before hea
 Loads text before (refused _) after = NotLoaded text before after
 
 -- a head and records that a load of a plan left make the belt of that plan
-abbrev pub MakesPlan : PlanHead → Records → Belt → Type 0
-MakesPlan head records belt = (p : Plan) (before : Records) → LawfulPlan p → head ≡ head_of p → records ≡ loaded p before → belt ≡ plan_belt p
+pub record MakesPlan (head : PlanHead) (records : Records) (belt : Belt) : Type 0 where
+  pub of_plan : (p : Plan) (before : Records) → LawfulPlan p → head ≡ head_of p → records ≡ loaded p before → belt ≡ plan_belt p

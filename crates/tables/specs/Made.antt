@@ -10,4 +10,4 @@ records_of p = record { states = p.states.now; moves = p.moves.now; outcomes = p
 
 -- the belt of its count, its start and those records
 abbrev pub belt_of : TablePlant → Belt
-belt_of p = table_belt p.count p.start (records_of p)
+belt_of p = table_belt p.head.count p.head.start (records_of p)

@@ -11,6 +11,7 @@ use plan::{PlanFault, PlanHead, Tables, fill};
 
 /// Loads a plan text: checks it whole against the tables, and then writes its records, each table from place 0. It
 /// answers the count and the start. A refused text changes nothing.
+#[tactic(auto, using(crate::proofs::Meaning::loads))]
 pub fn load(text: &[u8], tables: &mut Tables) -> Result<PlanHead, PlanFault>
     ensures answer { told plan_refusal result ≡ and_then (read_plan text.now (room_of (held tables.old))) (λ p. answered (head_of p)) }
     ensures tables { held tables.new ≡ records_after (read_plan text.now (room_of (held tables.old))) (held tables.old) }

@@ -10,28 +10,11 @@ use crate::places::record_at;
 use plan::{MoveRecord, OutcomeRecord, PlanHead, StateRecord};
 use plant::{GREATEST_COST, MOST_MOVES, MOST_OUTCOMES, MOST_STATES, Plant};
 
-// What a place past the end of the table of states holds.
-const NO_STATE: StateRecord = StateRecord { first: 0, end: 0 };
-
-// What a place past the end of the table of moves holds.
-const NO_MOVE: MoveRecord = MoveRecord {
-    cost: 0,
-    first: 0,
-    end: 0,
-};
-
-// What a place past the end of the table of outcomes holds.
-const NO_OUTCOME: OutcomeRecord = OutcomeRecord {
-    state: 0,
-    weight: 0,
-};
-
 /// A plant whose states, moves and outcomes stand in three tables. Whatever they hold, each number is brought within
 /// a plant's bounds as it is read, and a place past a table's end holds zeros.
 #[derive(Clone, Copy)]
 pub struct TablePlant<'a> {
-    count: u16,
-    start: u16,
+    head: PlanHead,
     states: &'a [StateRecord],
     moves: &'a [MoveRecord],
     outcomes: &'a [OutcomeRecord],
@@ -39,6 +22,7 @@ pub struct TablePlant<'a> {
 
 impl<'a> TablePlant<'a> {
     /// The plant of a count, a start and three tables, which are lent for reading.
+    #[tactic(auto, using(crate::proofs::Meaning::makes_plan))]
     pub fn new(
         head: PlanHead,
         states: &'a [StateRecord],
@@ -49,22 +33,8 @@ impl<'a> TablePlant<'a> {
         ensures tables { records_of result ≡ record { states = states.now; moves = moves.now; outcomes = outcomes.now } }
         ensures means { MakesPlan head (records_of result) (belt_of result) }
     {
-        TablePlant::over(head, states, moves, outcomes)
-    }
-
-    // The struct of a count, a start and three tables.
-    fn over(
-        head: PlanHead,
-        states: &'a [StateRecord],
-        moves: &'a [MoveRecord],
-        outcomes: &'a [OutcomeRecord],
-    ) -> TablePlant<'a>
-        ensures belt { belt_of result ≡ table_belt head.count head.start (records_of result) }
-        ensures tables { records_of result ≡ record { states = states.now; moves = moves.now; outcomes = outcomes.now } }
-    {
         TablePlant {
-            count: head.count,
-            start: head.start,
+            head,
             states,
             moves,
             outcomes,
@@ -78,10 +48,12 @@ impl<'a> TablePlant<'a> {
         if state >= self.states() {
             return None;
         }
-        Some(record_at(self.states, usize::from(state), 0, NO_STATE))
+        let past = StateRecord::default();
+        Some(record_at(self.states, usize::from(state), 0, past))
     }
 
     // The record of a move, where the state has one of that number.
+    #[tactic(auto, using(crate::proofs::TablesFound::found_no_move))]
     fn found_move(&self, state: u16, number: u8) -> Option<MoveRecord>
         ensures { FoundMove self.now state number result }
     {
@@ -89,10 +61,12 @@ impl<'a> TablePlant<'a> {
         if number >= moves_in(from) {
             return None;
         }
-        Some(record_at(self.moves, from.first, usize::from(number), NO_MOVE))
+        let past = MoveRecord::default();
+        Some(record_at(self.moves, from.first, usize::from(number), past))
     }
 
     // The record of an outcome, where the move has one of that number.
+    #[tactic(auto, using(crate::proofs::TablesFound::found_no_outcome))]
     fn found_outcome(&self, state: u16, number: u8, outcome: u8) -> Option<OutcomeRecord>
         ensures { FoundOutcome self.now state number outcome result }
     {
@@ -100,7 +74,8 @@ impl<'a> TablePlant<'a> {
         if outcome >= outcomes_in(by) {
             return None;
         }
-        Some(record_at(self.outcomes, by.first, usize::from(outcome), NO_OUTCOME))
+        let past = OutcomeRecord::default();
+        Some(record_at(self.outcomes, by.first, usize::from(outcome), past))
     }
 }
 
@@ -126,55 +101,42 @@ fn outcomes_in(held: MoveRecord) -> u8
 impl<'a> Plant for TablePlant<'a> {
     ghost meaning = { λ p. belt_of p };
 
-    ghost lawful = { λ p. table_lawful p.count p.start (records_of p) };
+    ghost lawful = { λ p. table_lawful p.head.count p.head.start (records_of p) };
 
     fn states(&self) -> u16 {
-        self.count.clamp(1, MOST_STATES)
+        self.head.count.clamp(1, MOST_STATES)
     }
 
     fn start(&self) -> u16 {
-        self.start.min(self.states() - 1)
+        self.head.start.min(self.states() - 1)
     }
 
     fn is_goal(&self, state: u16) -> bool {
-        match self.found_state(state) {
-            Some(found) => moves_in(found) == 0,
-            None => false,
-        }
+        self.found_state(state)
+            .is_some_and(|found| moves_in(found) == 0)
     }
 
     fn move_count(&self, state: u16) -> u8 {
-        match self.found_state(state) {
-            Some(found) => moves_in(found),
-            None => 0,
-        }
+        self.found_state(state).map_or(0, moves_in)
     }
 
     fn cost(&self, state: u16, number: u8) -> u16 {
-        match self.found_move(state, number) {
-            Some(found) => found.cost.clamp(1, GREATEST_COST),
-            None => 0,
-        }
+        self.found_move(state, number)
+            .map_or(0, |found| found.cost.clamp(1, GREATEST_COST))
     }
 
     fn outcome_count(&self, state: u16, number: u8) -> u8 {
-        match self.found_move(state, number) {
-            Some(found) => outcomes_in(found),
-            None => 0,
-        }
+        self.found_move(state, number).map_or(0, outcomes_in)
     }
 
     fn outcome_state(&self, state: u16, number: u8, outcome: u8) -> u16 {
-        match self.found_outcome(state, number, outcome) {
-            Some(found) => found.state.min(self.states() - 1),
-            None => 0,
-        }
+        let last = self.states() - 1;
+        self.found_outcome(state, number, outcome)
+            .map_or(0, |found| found.state.min(last))
     }
 
     fn outcome_weight(&self, state: u16, number: u8, outcome: u8) -> u8 {
-        match self.found_outcome(state, number, outcome) {
-            Some(found) => found.weight.max(1),
-            None => 0,
-        }
+        self.found_outcome(state, number, outcome)
+            .map_or(0, |found| found.weight.max(1))
     }
 }
