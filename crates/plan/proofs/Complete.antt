@@ -4,6 +4,8 @@ use Rattle.std.proofs.lemmas.Bool.{cond-true, cond-false, eq-eqb, le-leb, lt-ltb
 use Rattle.std.proofs.lemmas.Fmt.{decimal_digit}
 use Rattle.text.specs.declared.parsed.Parsed.{Parsed}
 use Rattle.refusal.specs.Told.{Told, answered}
+use Rattle.std.specs.List.{AllByRecursion}
+use Rattle.std.proofs.lemmas.List.Elements.{All-from_get_or, recursion_from_All}
 use Rattle.plant.specs.Belts.{Move, Outcome, no_outcome}
 use Rattle.plant.specs.Laws.{LawfulMove, LawfulOutcome}
 use Rattle.text.specs.declared.marks.Sign.{Sign}
@@ -22,7 +24,7 @@ use Rattle.plan.specs.Format.{feed, forms_text, outcome_text, move_text, line_te
 use Rattle.plan.specs.Forms.{also, below, close_at, cost_at, forms_at, grow_move, grow_outcome, keyword_at, more_at, move_item, open_at, outcome_at, outcome_item, state_at}
 use Rattle.plan.specs.Lines.{body_at, due_at, front_at, grow_line, head_at, line_at, lines_at, opening_at, opening_word, read_plan, rest_at, unused}
 use Rattle.plan.specs.Plans.{Plan}
-use Rattle.plan.proofs.Each.{Each, EachFits, LineFits, LineLawful, MoveFits, OutcomeFits, each_from}
+use Rattle.plan.proofs.Each.{EachFits, LineFits, LineLawful, MoveFits, OutcomeFits}
 
 sign_back : (text : List ℕ) (at : ℕ) (s : Sign) (rest : List ℕ) → drop at text ≡ sign_byte s ∷ rest → (next : ℕ) × (sign_at text at s ≡ answered next) × (drop next text ≡ rest)
 sign_back text at s rest e = word_back text at (sign_byte s ∷ []) rest e
@@ -49,7 +51,7 @@ module _ {A : Type 0} (item : Counts → ℕ → Told (Parsed A)) (grow : Counts
   close_back : (at : ℕ) (rest : List ℕ) → drop at text ≡ codes ")" ++ rest → (next : ℕ) × (close_at {A = A} text at ≡ answered (record { value = []; next = next })) × (drop next text ≡ rest)
   close_back at rest e = let p = sign_back text at Close rest e in (p.0, then_answered _ p.1, p.2)
 
-  more_back : (k : ℕ) (u : Counts) (xs : List A) (at : ℕ) (rest : List ℕ) → Each L xs → EachFits F grow u xs → length xs ≤ k → drop at text ≡ forms_text form xs ++ rest
+  more_back : (k : ℕ) (u : Counts) (xs : List A) (at : ℕ) (rest : List ℕ) → AllByRecursion L xs → EachFits F grow u xs → length xs ≤ k → drop at text ≡ forms_text form xs ++ rest
       → (next : ℕ) × (more_at item grow k text u at ≡ answered (record { value = xs; next = next })) × (drop next text ≡ rest)
   more_back zero u [] at rest ok fit few e = close_back at rest e
   more_back zero u (x ∷ xs) at rest ok fit few e = absurd (omega arith)
@@ -62,7 +64,7 @@ module _ {A : Type 0} (item : Counts → ℕ → Told (Parsed A)) (grow : Counts
       let q = more_back k (grow u x) xs p.0 rest ok.1 fit.1 (omega arith) p.2 in
       (q.0, cond-true (is_at text at (sign_byte Space)) _ (close_at text at) sp.0 ∙ then_answered _ p.1 ∙ ap (also x) q.1, q.2)
 
-  pub forms_back : (u : Counts) (xs : List A) (at : ℕ) (rest : List ℕ) → Each L xs → EachFits F grow u xs → 1 ≤ length xs → length xs ≤ 16 → drop at text ≡ forms_text form xs ++ rest
+  pub forms_back : (u : Counts) (xs : List A) (at : ℕ) (rest : List ℕ) → AllByRecursion L xs → EachFits F grow u xs → 1 ≤ length xs → length xs ≤ 16 → drop at text ≡ forms_text form xs ++ rest
       → (next : ℕ) × (forms_at item grow text u at ≡ answered (record { value = xs; next = next })) × (drop next text ≡ rest)
   forms_back u [] at rest ok fit some few e = absurd (omega arith)
   forms_back u (x ∷ xs) at rest ok fit some few e =
@@ -102,7 +104,7 @@ module _ (text : List ℕ) (limits : Limits) (small : limits.states ≤ 4096) wh
       let c = ranged_back 1 1000 text b.0 m.cost (os ++ rest) (omega arith) ok.costs ok.cheap (no_digit outcome_text m.outcomes rest) (b.2 ∙ append_assoc d os rest) in
       let front : cost_at text limits u at ≡ answered (record { value = m.cost; next = c.0 }) = then_answered _ a.1 ∙ then_answered _ b.1 ∙ then_answered _ c.1 in
       let o = forms_back (outcome_item text limits) grow_outcome text outcome_text (LawfulOutcome limits.states) (OutcomeFits limits.room) outcome_back u m.outcomes c.0 rest
-      (each_from (LawfulOutcome limits.states) m.outcomes no_outcome ok.each) fit.1 ok.some ok.few c.2 in
+      (recursion_from_All (LawfulOutcome limits.states) m.outcomes (All-from_get_or (LawfulOutcome limits.states) m.outcomes no_outcome ok.each)) fit.1 ok.some ok.few c.2 in
       (o.0, then_answered _ front ∙ then_answered _ o.1, o.2)
 
   due_back : (due : ℕ) (at : ℕ) (rest : List ℕ) → due < 2 ^ 64 - 1 → run rest ≡ 0 → drop at text ≡ decimal due ++ rest
@@ -146,7 +148,7 @@ module _ (text : List ℕ) (limits : Limits) (small : limits.states ≤ 4096) wh
       let c = sign_back text b.0 Feed rest b.2 in
       (c.0, then_answered _ a.1 ∙ then_answered {t = body_at State text limits u a.0} _ b.1 ∙ then_answered _ c.1, c.2)
 
-  pub lines_back : (k : ℕ) (u : Counts) (ls : List (List Move)) (at : ℕ) (rest : List ℕ) → u.states + k ≤ 4096 → length ls ≡ k → Each (LineLawful limits.states) ls → EachFits (LineFits limits.room) grow_line u ls
+  pub lines_back : (k : ℕ) (u : Counts) (ls : List (List Move)) (at : ℕ) (rest : List ℕ) → u.states + k ≤ 4096 → length ls ≡ k → AllByRecursion (LineLawful limits.states) ls → EachFits (LineFits limits.room) grow_line u ls
       → drop at text ≡ lines_text u.states ls ++ rest → (next : ℕ) × (lines_at k text limits u at ≡ answered (record { value = ls; next = next })) × (drop next text ≡ rest)
   lines_back zero u [] at rest low long ok fit e = (at, refl, e)
   lines_back zero u (l ∷ ls) at rest low long ok fit e = absurd (omega arith)
@@ -182,7 +184,7 @@ past_end : (text : List ℕ) (at : ℕ) → drop at text ≡ [] → length text 
 past_end text at e = let f = ap length e in let g = length-drop at text in omega arith
 
 pub plan_complete : (p : Plan) (room : Counts) → length (plan_text p) ≤ longest_text → 1 ≤ p.count → p.count ≤ 4096 → p.start < p.count → length p.lines ≡ p.count
-    → Each (LineLawful p.count) p.lines → EachFits (LineFits room) grow_line unused p.lines → read_plan (plan_text p) room ≡ answered p
+    → AllByRecursion (LineLawful p.count) p.lines → EachFits (LineFits room) grow_line unused p.lines → read_plan (plan_text p) room ≡ answered p
 plan_complete p room short some few less long ok fit =
     let text = plan_text p in
     let limits : Limits = record { states = p.count; room = room } in

@@ -1,5 +1,6 @@
 -- How many records are used behind a row of forms, and when all of them find a place.
-use Rattle.std.proofs.Common.{◌≡◌, ◌+◌, ◌<◌, ◌≤◌, List, [], ◌∷◌, ◌++◌, length, arith, length-append}
+use Rattle.std.proofs.Common.{◌≡◌, ◌+◌, ◌<◌, ◌≤◌, List, [], ◌∷◌, ◌++◌, length, ap, ◌∙◌, arith, length-append}
+use Rattle.std.proofs.lemmas.List.Concat.{flat_map-append}
 use Rattle.plant.specs.Belts.{Move, Outcome}
 use Rattle.plan.specs.declared.counts.Counts.{Counts}
 use Rattle.plan.specs.Forms.{grow_all, grow_move, grow_outcome}
@@ -20,13 +21,8 @@ moves_counted u (m ∷ ms) =
     (omega (arith, e.0), omega (arith, e.1))
 
 -- the outcomes of two rows of moves
-pub outcomes_of_both : (ls ms : List Move) → length (all_outcomes (ls ++ ms)) ≡ length (all_outcomes ls) + length (all_outcomes ms)
-outcomes_of_both [] ms = omega arith
-outcomes_of_both (l ∷ ls) ms =
-    let e = outcomes_of_both ls ms in
-    let f = length-append l.outcomes (all_outcomes (ls ++ ms)) in
-    let g = length-append l.outcomes (all_outcomes ls) in
-    omega arith
+outcomes_of_both : (ls ms : List Move) → length (all_outcomes (ls ++ ms)) ≡ length (all_outcomes ls) + length (all_outcomes ms)
+outcomes_of_both ls ms = ap length (flat_map-append (λ (m : Move). m.outcomes) ls ms) ∙ length-append (all_outcomes ls) (all_outcomes ms)
 
 module _ (room : Counts) where
   outcomes_fit : (u : Counts) (os : List Outcome) → u.outcomes ≤ room.outcomes → EachFits (OutcomeFits room) grow_outcome u os → u.outcomes + length os ≤ room.outcomes

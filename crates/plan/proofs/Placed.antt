@@ -1,7 +1,8 @@
 -- Where the records of a plan stand once they are written.
-use Rattle.std.proofs.Common.{◌≡◌, ℕ, suc, ◌+◌, ◌≤◌, List, [], ◌∷◌, ◌++◌, map, length, drop, set, sym, refl, ap, ◌∙◌, append_assoc, zero-add, add-one, arith, length-append}
+use Rattle.std.proofs.Common.{◌≡◌, ℕ, suc, ◌+◌, ◌≤◌, List, [], ◌∷◌, ◌++◌, map, length, drop, set, sym, refl, ap, ◌∙◌, zero-add, add-one, arith, length-append}
 use Rattle.std.proofs.Math.Seq.{sets, sets-eq}
-use Rattle.std.proofs.lemmas.List.{length-map}
+use Rattle.std.proofs.lemmas.List.{length-map, map-append}
+use Rattle.std.proofs.lemmas.List.Concat.{flat_map-append}
 use Rattle.plant.specs.Belts.{Move, Outcome}
 use Rattle.plan.specs.declared.counts.Counts.{Counts}
 use Rattle.plan.specs.declared.records.StateRecord.{StateRecord}
@@ -19,10 +20,6 @@ use Rattle.plan.proofs.Counted.{moves_counted, outcomes_counted}
 sets_more : {A : Type 0} (xs ys l : List A) (i j : ℕ) → j ≡ i + length xs → sets (sets l i xs) j ys ≡ sets l i (xs ++ ys)
 sets_more [] ys l i j e = let f : j ≡ i = omega arith in ap (λ (k : ℕ). sets l k ys) f
 sets_more (x ∷ xs) ys l i j e = sets_more xs ys (set l i x) (suc i) j (omega arith)
-
-pub map_both : {A B : Type 0} (f : A → B) (xs ys : List A) → map f (xs ++ ys) ≡ map f xs ++ map f ys
-map_both f [] ys = refl
-map_both f (x ∷ xs) ys = ap (λ l. f x ∷ l) (map_both f xs ys)
 
 -- the outcomes of a move
 outcomes_put : (u : Counts) (os : List Outcome) (r : Records)
@@ -52,7 +49,7 @@ moves_put u (m ∷ ms) r =
     let b : sets (put_move u m r).outcomes end (map outcome_record (all_outcomes ms)) ≡ sets r.outcomes u.outcomes (map outcome_record (all_outcomes (m ∷ ms))) =
     ap (λ (x : Records). sets x.outcomes end (map outcome_record (all_outcomes ms))) first
     ∙ sets_more os (map outcome_record (all_outcomes ms)) r.outcomes u.outcomes end long
-    ∙ ap (λ l. sets r.outcomes u.outcomes l) (sym (map_both outcome_record m.outcomes (all_outcomes ms))) in
+    ∙ ap (λ l. sets r.outcomes u.outcomes l) (sym (map-append outcome_record m.outcomes (all_outcomes ms))) in
     let c : (put_move u m r).states ≡ r.states = ap (λ (x : Records). x.states) first in
     moves_put (grow_move u m) ms (put_move u m r) ∙ (λ i. record { states = c i; moves = a i; outcomes = b i })
 
@@ -63,10 +60,6 @@ records_both first (l ∷ ls) ms =
     let one : MoveRecord = record { cost = l.cost; first = first; end = first + length l.outcomes } in
     let e : first + length l.outcomes + length (all_outcomes ls) ≡ first + length (all_outcomes (l ∷ ls)) = let f = length-append l.outcomes (all_outcomes ls) in omega arith in
     ap (λ x. one ∷ x) (records_both (first + length l.outcomes) ls ms ∙ ap (λ (k : ℕ). move_records (first + length l.outcomes) ls ++ move_records k ms) e)
-
-pub outcomes_both : (ls ms : List Move) → all_outcomes (ls ++ ms) ≡ all_outcomes ls ++ all_outcomes ms
-outcomes_both [] ms = refl
-outcomes_both (l ∷ ls) ms = ap (λ x. l.outcomes ++ x) (outcomes_both ls ms) ∙ sym (append_assoc l.outcomes (all_outcomes ls) (all_outcomes ms))
 
 pub moves_long : (first : ℕ) (ms : List Move) → length (move_records first ms) ≡ length ms
 moves_long first [] = refl
@@ -105,7 +98,7 @@ lines_put u (l ∷ ls) r =
     let c : sets (put_line u l r).outcomes v.outcomes (map outcome_record (all_outcomes (all_moves ls))) ≡ sets r.outcomes u.outcomes (map outcome_record (all_outcomes (l ++ all_moves ls))) =
     ap (λ (x : Records). sets x.outcomes v.outcomes (map outcome_record (all_outcomes (all_moves ls)))) first
     ∙ sets_more os (map outcome_record (all_outcomes (all_moves ls))) r.outcomes u.outcomes v.outcomes olong
-    ∙ ap (λ x. sets r.outcomes u.outcomes x) (sym (ap (map outcome_record) (outcomes_both l (all_moves ls)) ∙ map_both outcome_record (all_outcomes l) (all_outcomes (all_moves ls)))) in
+    ∙ ap (λ x. sets r.outcomes u.outcomes x) (sym (ap (map outcome_record) (flat_map-append (λ (m : Move). m.outcomes) l (all_moves ls)) ∙ map-append outcome_record (all_outcomes l) (all_outcomes (all_moves ls)))) in
     lines_put v ls (put_line u l r) ∙ (λ i. record { states = a i; moves = b i; outcomes = c i })
 
 over_sets : {A : Type 0} (new old : List A) → length new ≤ length old → sets old 0 new ≡ over new old

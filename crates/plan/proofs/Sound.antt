@@ -4,6 +4,8 @@ use Rattle.std.proofs.lemmas.Bool.{cases_Bool, cond-true, cond-false, leb-true}
 use Rattle.std.proofs.lemmas.Fmt.{decimal_digit}
 use Rattle.text.specs.declared.parsed.Parsed.{Parsed}
 use Rattle.refusal.specs.Told.{Told, answered, refused, and_then}
+use Rattle.std.specs.List.{AllByRecursion}
+use Rattle.std.proofs.lemmas.List.Elements.{All-from_recursion}
 use Rattle.plant.specs.Belts.{Move, Outcome, no_outcome}
 use Rattle.plant.specs.Laws.{LawfulMove, LawfulOutcome}
 use Rattle.text.specs.declared.marks.Sign.TheVariants.{Open, Close, Space, Feed}
@@ -23,7 +25,7 @@ use Rattle.plan.specs.Format.{feed, forms_text, outcome_text, move_text, line_te
 use Rattle.plan.specs.Forms.{also, close_at, cost_at, forms_at, grow_move, grow_outcome, keyword_at, more_at, move_item, open_at, outcome_at, outcome_item, outcomes_at, state_at}
 use Rattle.plan.specs.Lines.{body_at, due_at, end_at, front_at, grow_line, head_at, line_at, lines_at, opening_at, opening_word, read_plan, rest_at, unused}
 use Rattle.plan.specs.Plans.{Plan}
-use Rattle.plan.proofs.Each.{Each, EachFits, LineFits, LineLawful, MoveFits, OutcomeFits, each_at}
+use Rattle.plan.proofs.Each.{EachFits, LineFits, LineLawful, MoveFits, OutcomeFits}
 use Rattle.plan.proofs.Spans.{Spans, due_spans, keyword_spans, open_spans, opening_spans, ranged_spans, sign_spans, spans_then, state_spans}
 
 -- one more was read in front of others
@@ -33,7 +35,7 @@ also_parts a more g e go = then_parts more _ g e (λ h e1 e2. go h e1 (same_answ
 module _ {A : Type 0} (item : Counts → ℕ → Told (Parsed A)) (grow : Counts → A → Counts) (text : List ℕ) (form : A → List ℕ) (L : A → Type 0) (F : Counts → A → Type 0)
     (sound : (u : Counts) (at : ℕ) (g : Parsed A) → item u at ≡ answered g → Spans text at (form g.value) g.next × L g.value × F u g.value) where
   abbrev Row : ℕ → Counts → ℕ → Parsed (List A) → Type 0
-  Row k u at g = Spans text at (forms_text form g.value) g.next × Each L g.value × (length g.value ≤ k) × EachFits F grow u g.value
+  Row k u at g = Spans text at (forms_text form g.value) g.next × AllByRecursion L g.value × (length g.value ≤ k) × EachFits F grow u g.value
 
   close_sound : (k : ℕ) (u : Counts) (at : ℕ) (g : Parsed (List A)) → close_at text at ≡ answered g → Row k u at g
   close_sound k u at g e =
@@ -118,7 +120,7 @@ module _ (text : List ℕ) (limits : Limits) (small : limits.states ≤ 4096) wh
       let is : record { value = record { cost = c.value; outcomes = os.value }; next = os.next } ≡ g = ap (λ x. record { value = record { cost = x.value; outcomes = os.value }; next = os.next }) here ∙ same_answer _ g k4 in
       subst (λ (x : Parsed Move). Spans text at (move_text x.value) x.next × LawfulMove limits.states x.value × MoveFits limits.room u x.value) is (
         spans_then (codes "(") (codes "move " ++ (d ++ row)) a.0 (spans_then (codes "move ") (d ++ row) (keyword_spans text inside (codes "move") first e2) (spans_then d row r.0 body)),
-        record { costs = r.1; cheap = r.2; some = o.1; few = o.0.2; each = λ k h. each_at (LawfulOutcome limits.states) os.value k no_outcome o.0.1 h },
+        record { costs = r.1; cheap = r.2; some = o.1; few = o.0.2; each = λ k h. All-from_recursion (LawfulOutcome limits.states) os.value o.0.1 k no_outcome h },
         (a.1, o.0.3),
       ))))))
 
@@ -176,7 +178,7 @@ module _ (text : List ℕ) (limits : Limits) (small : limits.states ≤ 4096) wh
       subst (Line u at) (same_answer _ g k3) (line_joined f.value u at f.next b.next next b.value a.1 a.0 (body_sound f.value u f.next b e2) (sign_spans text b.next Feed next e3)))))
 
   abbrev Lines : ℕ → Counts → ℕ → Parsed (List (List Move)) → Type 0
-  Lines k u at g = Spans text at (lines_text u.states g.value) g.next × (length g.value ≡ k) × Each (LineLawful limits.states) g.value × EachFits (LineFits limits.room) grow_line u g.value
+  Lines k u at g = Spans text at (lines_text u.states g.value) g.next × (length g.value ≡ k) × AllByRecursion (LineLawful limits.states) g.value × EachFits (LineFits limits.room) grow_line u g.value
 
   pub lines_sound : (k : ℕ) (u : Counts) (at : ℕ) (g : Parsed (List (List Move))) → u.states + k ≤ 4096 → lines_at k text limits u at ≡ answered g → Lines k u at g
   lines_sound zero u at g low e = subst (Lines zero u at) (same_answer _ g e) (record { stands = refl }, refl, tt, tt)
@@ -242,7 +244,7 @@ end_parts text q p at e =
 -- the parts of what an accepted text has to keep
 abbrev pub Kept : List ℕ → Counts → Plan → Type 0
 Kept text room p = (text ≡ plan_text p) × (length text ≤ longest_text) × (1 ≤ p.count) × (p.count ≤ 4096) × (p.start < p.count) × (length p.lines ≡ p.count)
-    × Each (LineLawful p.count) p.lines × EachFits (LineFits room) grow_line unused p.lines
+    × AllByRecursion (LineLawful p.count) p.lines × EachFits (LineFits room) grow_line unused p.lines
 
 pub plan_sound : (text : List ℕ) (room : Counts) (p : Plan) → read_plan text room ≡ answered p → Kept text room p
 plan_sound text room p e =

@@ -1,5 +1,5 @@
 -- How the forms of a plan text are read, each from a place of the text on. The leftmost fault answers.
-use Rattle.std.specs.Prelude.{ℕ, zero, suc, ◌+◌, cond, List, [], ◌∷◌, codes, nat_lt}
+use Rattle.std.specs.Prelude.{ℕ, zero, suc, ◌+◌, cond, List, [], ◌∷◌, codes, fold, nat_lt}
 use Rattle.refusal.specs.Told.{Told, answered, refused, and_then}
 use Rattle.plant.specs.Belts.{Move, Outcome}
 use Rattle.text.specs.declared.marks.Sign.TheVariants.{Open, Close, Space}
@@ -71,8 +71,7 @@ forms_at item grow text used at =
 
 -- the records that are used behind one more of them, and behind all of a row
 abbrev pub grow_all : {A : Type 0} → (Counts → A → Counts) → Counts → List A → Counts
-grow_all grow used [] = used
-grow_all grow used (a ∷ more) = grow_all grow (grow used a) more
+grow_all grow used all = fold grow used all
 
 -- one outcome more is used
 abbrev pub grow_outcome : Counts → Outcome → Counts

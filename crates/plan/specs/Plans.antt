@@ -1,5 +1,6 @@
 -- What a plan text means: a plan, the belt that it stands for, and when it is within the limits.
-use Rattle.std.specs.Prelude.{◌≡◌, ℕ, ◌≤◌, ◌&&◌, List, [], ◌∷◌, ◌++◌, length, ◌==◌, nat_lt, slice_index_or}
+use Rattle.std.specs.Prelude.{◌≡◌, ℕ, ◌≤◌, ◌&&◌, List, [], length, ◌==◌, nat_lt, slice_index_or}
+use Rattle.std.specs.List.{flat_map}
 use Rattle.plant.specs.Belts.{Belt, Move, Outcome}
 use Rattle.plant.specs.Laws.{LawfulBelt}
 use Rattle.plan.specs.declared.counts.Counts.{Counts}
@@ -26,13 +27,11 @@ pub record LawfulPlan (p : Plan) : Type 0 where
 
 -- the moves of all lines, in order
 abbrev pub all_moves : List (List Move) → List Move
-all_moves [] = []
-all_moves (l ∷ ls) = l ++ all_moves ls
+all_moves ls = flat_map (λ l. l) ls
 
 -- the outcomes of all moves, in order
 abbrev pub all_outcomes : List Move → List Outcome
-all_outcomes [] = []
-all_outcomes (m ∷ ms) = m.outcomes ++ all_outcomes ms
+all_outcomes ms = flat_map (λ m. m.outcomes) ms
 
 -- there is room for a record of each state, each move and each outcome
 pub record Fits (room : Counts) (p : Plan) : Type 0 where

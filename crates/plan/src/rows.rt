@@ -15,10 +15,11 @@ use crate::fault::PlanFault;
 use crate::records::MoveRecord;
 use crate::tables::Tables;
 use crate::walk::{Past, Source};
+use plant::MOST_MOVES;
 use text::{Sign, is_sign, sign_at};
 
-// The most forms of a row: as many as a state has moves at most, and a move outcomes.
-const LONGEST_ROW: u8 = 16;
+// The most forms of a row: a state has no more moves, and a move no more outcomes.
+const LONGEST_ROW: u8 = MOST_MOVES;
 
 /// A form of which a row is made: how one is read and written.
 pub(crate) trait Form {

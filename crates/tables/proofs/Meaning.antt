@@ -2,7 +2,8 @@
 use Rattle.std.proofs.Common.{◌≡◌, ℕ, zero, suc, ◌+◌, ◌-◌, ◌<◌, ◌≤◌, ◌&&◌, eqb, ltb, List, [], ◌∷◌, ◌++◌, map, length, get_or, drop, sym, refl, ap, ◌∙◌, subst, inl, inr, append_assoc, arith, length-append, get_or-append-add}
 use Rattle.std.specs.List.{range_with_len}
 use Rattle.std.proofs.lemmas.List.FromFn.{fill_by_all}
-use Rattle.std.proofs.lemmas.List.{get_or_append_left, get_or-map, length-map}
+use Rattle.std.proofs.lemmas.List.{get_or_append_left, get_or-map, length-map, map-append}
+use Rattle.std.proofs.lemmas.List.Concat.{flat_map-append}
 use Rattle.std.proofs.lemmas.Bool.{cases_lt, cond-true, cond-false, le-ltb, lt-ltb}
 use Rattle.refusal.specs.Told.{Told, answered, refused, and_then}
 use Rattle.plant.specs.Belts.{Belt, Move, Outcome, no_move, no_outcome}
@@ -16,7 +17,7 @@ use Rattle.plan.specs.Plans.{Plan, LawfulPlan, all_moves, all_outcomes, plan_bel
 use Rattle.plan.specs.Records.{Records, loaded, move_records, outcome_record, over, records_after, state_records}
 use Rattle.plan.specs.Tables.{room_of}
 use Rattle.plan.proofs.Accepted.{accepted_means, reads_format}
-use Rattle.plan.proofs.Placed.{map_both, moves_long, outcomes_both, records_both, states_long}
+use Rattle.plan.proofs.Placed.{moves_long, records_both, states_long}
 use Rattle.tables.specs.Clamped.{belt_in, move_in, moves_in, moves_of, nearest, no_move_record, no_outcome_record, no_state, outcome_in, states_in, table_belt}
 use Rattle.tables.specs.Loads.{Loads, MakesPlan}
 
@@ -48,7 +49,7 @@ abbrev outs : List Move → List OutcomeRecord
 outs ms = map outcome_record (all_outcomes ms)
 
 outs_both : (ls ms : List Move) → outs (ls ++ ms) ≡ outs ls ++ outs ms
-outs_both ls ms = ap (map outcome_record) (outcomes_both ls ms) ∙ map_both outcome_record (all_outcomes ls) (all_outcomes ms)
+outs_both ls ms = ap (map outcome_record) (flat_map-append (λ (m : Move). m.outcomes) ls ms) ∙ map-append outcome_record (all_outcomes ls) (all_outcomes ms)
 
 outs_long : (ms : List Move) → length (outs ms) ≡ length (all_outcomes ms)
 outs_long ms = length-map (all_outcomes ms) outcome_record
@@ -58,9 +59,9 @@ move_held : (l : List Move) (first k : ℕ) (os : List OutcomeRecord) → k < le
     → (y : ℕ) × (get_or (move_records first l) k no_move_record ≡ record { cost = (get_or l k no_move).cost; first = y; end = y + length (get_or l k no_move).outcomes }) × Stands os y (map outcome_record (get_or l k no_move).outcomes)
 move_held [] first k os h st = absurd (omega arith)
 move_held (m ∷ ms) first zero os h st =
-    (first, refl, stands_front os first (map outcome_record m.outcomes) (outs ms) (subst (λ (x : List OutcomeRecord). Stands os first x) (map_both outcome_record m.outcomes (all_outcomes ms)) st))
+    (first, refl, stands_front os first (map outcome_record m.outcomes) (outs ms) (subst (λ (x : List OutcomeRecord). Stands os first x) (map-append outcome_record m.outcomes (all_outcomes ms)) st))
 move_held (m ∷ ms) first (suc k) os h st =
-    let split = subst (λ (x : List OutcomeRecord). Stands os first x) (map_both outcome_record m.outcomes (all_outcomes ms)) st in
+    let split = subst (λ (x : List OutcomeRecord). Stands os first x) (map-append outcome_record m.outcomes (all_outcomes ms)) st in
     let long : first + length (map outcome_record m.outcomes) ≡ first + length m.outcomes = ap (λ (j : ℕ). first + j) (length-map m.outcomes outcome_record) in
     move_held ms (first + length m.outcomes) k os (omega arith) (subst (λ (j : ℕ). Stands os j (outs ms)) long (stands_back os first (map outcome_record m.outcomes) (outs ms) split))
 
