@@ -46,7 +46,7 @@ fn plan_refusal(number: u8, place: usize) -> Refusal
     }
 }
 
-/// A fault prints the line of its refusal.
+/// A fault prints the line of its refusal. (Written out: what a derive prints no contract says.)
 impl fmt::Display for PlanFault {
     ghost output = { λ fault. Some (refusal_line (plan_refusal fault)) };
 

@@ -1,4 +1,5 @@
-//! What a plan is held as: a record for each state, each move and each outcome, in three tables.
+//! What a plan is held as: a record for each state, each move and each outcome, in three tables. (A record names places
+//! of the next table, since the caller lends the memory and the libraries use no heap.)
 
 /// A state: its moves stand in the table of moves, from the place `first` up to the place before `end`.
 #[derive(Clone, Copy, PartialEq, Eq, Debug, Default)]

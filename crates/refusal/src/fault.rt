@@ -10,7 +10,8 @@ pub trait Fault {
     // the refusal that a fault stands for
     ghost meaning: { Self → Refusal };
 
-    /// The refusal that this fault stands for.
+    /// The refusal that this fault stands for. (A method and not a `From`: the readings below say what they answer by
+    /// the trait's `meaning`, and beside a `From` a law would have to tie the two.)
     fn refusal(&self) -> Refusal
         ensures { result ≡ meaning self.now };
 

@@ -19,7 +19,7 @@ pub enum Layer {
     Run,
 }
 
-/// A layer prints as its one word, as `joining`.
+/// A layer prints as its one word, as `joining`. (Written out: what a derive prints no contract says.)
 impl fmt::Display for Layer {
     ghost output = { λ layer. Some (layer_word layer) };
 

@@ -39,7 +39,7 @@ impl Fault for TextFault {
     }
 }
 
-/// A fault prints the line of its refusal.
+/// A fault prints the line of its refusal. (Written out: what a derive prints no contract says.)
 impl fmt::Display for TextFault {
     ghost output = { λ fault. Some (refusal_line (text_refusal fault)) };
 
