@@ -2,5 +2,4 @@ pub mod Bounded
 pub mod Checked
 pub mod Examples
 pub mod Risen
-pub mod Standing
 pub mod Summed

@@ -6,7 +6,7 @@ use Rattle.std.proofs.lemmas.List.{length-replicate, get_or-replicate}
 use Rattle.joining.specs.Rows.{Rows}
 use Rattle.joining.specs.Laws.{Lawful, NoneFalls, least, greatest}
 use Rattle.joining.specs.Joinings.{weight_total, weighed, mean}
-use Rattle.joining.specs.Extremes.{least_below, greatest_above}
+use Rattle.joining.specs.Extremes.{least_is, greatest_is}
 use Rattle.joining.specs.RowFacts.{row_facts}
 
 -- the weighted sum does not fall where no figure does
@@ -45,10 +45,12 @@ positive ws fs r = let row = row_facts ws fs r in total_positive ws row.some row
 pub mean_lawful : Lawful mean
 mean_lawful = record {
   above_least = λ ws fs r.
-      let low = weighed_above (least fs) ws fs (row_facts ws fs r).as_long (least_below fs) in
+      let row = row_facts ws fs r in
+      let low = weighed_above (least fs) ws fs row.as_long (least_is fs (omega arith)).none_below in
       (le-div_iff_mul-le (positive ws fs r)).1 (omega (arith, mul_comm (least fs) (weight_total ws)));
   below_greatest = λ ws fs r.
-      div-le_of_le-mul (weight_total ws) (weighed_below (greatest fs) ws fs (row_facts ws fs r).as_long (greatest_above fs));
+      let row = row_facts ws fs r in
+      div-le_of_le-mul (weight_total ws) (weighed_below (greatest fs) ws fs row.as_long (greatest_is fs (omega arith)).none_above);
   monotone = λ ws fs gs r s n.
       let up = weighed_rises ws fs gs (row_facts ws fs r).as_long (row_facts ws gs s).as_long n in
       (le-div_iff_mul-le (positive ws fs r)).1 (omega (arith, div-mul-le_self (weighed ws fs) (weight_total ws)));

@@ -6,6 +6,7 @@
 #![tactic(auto)]
 
 mod best;
+mod extremes;
 mod fault;
 mod joining;
 mod mean;

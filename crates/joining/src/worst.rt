@@ -1,5 +1,6 @@
 //! The worst of a row.
-ghost use Rattle.std.specs.Prelude.{◌≡◌, IfOk};
+ghost use Rattle.std.specs.Prelude.{◌≡◌, max, IfOk};
+ghost use Rattle.joining.specs.Extremes.{greatest_is};
 ghost use Rattle.joining.specs.ExtremesLawful.{worst_lawful};
 ghost use Rattle.joining.specs.Faults.{joining_refusal};
 ghost use Rattle.joining.specs.Joinings.{worst};
@@ -7,13 +8,26 @@ ghost use Rattle.joining.specs.Laws.{IsGreatest};
 ghost use Rattle.joining.specs.Rows.{joined};
 ghost use Rattle.refusal.specs.Told.{told};
 
+use crate::extremes::{Choice, extreme};
 use crate::fault::JoiningFault;
 use crate::joining::Joining;
-use crate::rows::check_rows;
 
 /// The greatest figure of the row, whatever the weights. (The field calls it the worst case.)
 #[derive(Clone, Copy)]
 pub struct Worst;
+
+/// Of two figures it picks the greater.
+impl Choice for Worst {
+    ghost picked = { max };
+
+    ghost IsExtreme = { IsGreatest };
+
+    ghost reached = { greatest_is };
+
+    fn pick(first: u32, second: u32) -> u32 {
+        first.max(second)
+    }
+}
 
 impl Joining for Worst {
     ghost meaning = { λ _. worst };
@@ -24,13 +38,6 @@ impl Joining for Worst {
         ensures answer { told joining_refusal result ≡ joined worst weights.now figures.now }
         ensures greatest { IfOk result (λ figure. IsGreatest figures.now figure) }
     {
-        check_rows(weights, figures)?;
-        let mut greatest = figures[0];
-        for figure in figures {
-            if *figure > greatest {
-                greatest = *figure;
-            }
-        }
-        Ok(greatest)
+        extreme::<Worst>(weights, figures)
     }
 }
