@@ -28,13 +28,10 @@ impl Joining for Mean {
 }
 
 // The total of the weights of one row.
+#[tactic(auto, using(crate::specs::MeanLawful::total_is_sum))]
 fn weight_total(weights: &[u8]) -> u64
     requires { length weights.now ≤ 16 }
     ensures { result ≡ weight_total weights.now }
 {
-    let mut all: u64 = 0;
-    for weight in weights {
-        all += u64::from(*weight);
-    }
-    all
+    weights.iter().map(|weight| u64::from(*weight)).sum()
 }
