@@ -1,47 +1,46 @@
--- What `joined` tells, way by way, and that it answers exactly on lawful rows.
-use Rattle.std.proofs.Common.{◌≡◌, ℕ, zero, suc, ◌+◌, ◌<◌, ◌≤◌, true, cond, eqb, List, [], ◌∷◌, length, get_or, sym, refl, ap, ◌∙◌, inl, inr, suc-le-suc, zero-le, arith}
-use Rattle.std.proofs.lemmas.Bool.{eq-eqb, eqb-true, ne_eqb, cond-true, cond-false, cases_Bool}
+-- What `joined` tells, and that it answers exactly on lawful rows.
+use Rattle.std.proofs.Common.{◌≡◌, ℕ, ◌+◌, ◌<◌, ◌≤◌, Bool, true, false, cond, eqb, List, [], ◌∷◌, length, get_or, sym, refl, ap, ◌∙◌, arith}
+use Rattle.std.specs.List.{prefix_len, zip}
+use Rattle.std.proofs.lemmas.Bool.{eqb-true, cond_both}
 use Rattle.std.proofs.lemmas.Bool.Decides.{nat_tests}
+use Rattle.std.proofs.lemmas.List.Sums.{prefix_len_is, prefix_len_passes}
+use Rattle.std.proofs.lemmas.Slice.Zip.{length-zip, get_or-zip}
 use Rattle.refusal.specs.Told.{answered, refused}
+use Rattle.joining.specs.Judged.{FirstBad}
 use Rattle.joining.specs.RowFacts.{fitting_parts}
 use Rattle.joining.specs.Rows.{Rows, fitting, good_pair, first_bad, bad_rows, joined}
 
-pub fitting_made : (ws fs : List ℕ) → length ws ≡ length fs → 1 ≤ length ws → length ws ≤ 16 → fitting ws fs ≡ true
-fitting_made ws fs e some few = grind (arith, nat_tests)
+-- whether a weight and the figure beside it are good
+abbrev good_beside : ℕ × ℕ → Bool
+good_beside pair = good_pair pair.0 pair.1
 
-pub joined_pair : {A : Type 0} (join : List ℕ → List ℕ → A) (ws fs : List ℕ) (p : ℕ) → fitting ws fs ≡ true → first_bad ws fs ≡ p → p < length ws → refused (bad_rows p) ≡ joined join ws fs
-joined_pair join ws fs p h e l =
-    sym (cond-true (fitting ws fs) _ _ h ∙ cond-false (eqb (first_bad ws fs) (length ws)) _ _ (ne_eqb (first_bad ws fs) (length ws) (omega arith)) ∙ ap (λ q. refused (bad_rows q)) e)
+zipped : (ws fs : List ℕ) → first_bad ws fs ≡ prefix_len good_beside (zip ws fs)
+zipped [] fs = refl
+zipped (w ∷ ws) [] = refl
+zipped (w ∷ ws) (f ∷ fs) = ap (λ n. cond (good_pair w f) (1 + n) 0) (zipped ws fs)
 
-pub joined_all : {A : Type 0} (join : List ℕ → List ℕ → A) (ws fs : List ℕ) → fitting ws fs ≡ true → first_bad ws fs ≡ length ws → answered (join ws fs) ≡ joined join ws fs
-joined_all join ws fs h e =
-    sym (cond-true (fitting ws fs) _ _ h ∙ cond-true (eqb (first_bad ws fs) (length ws)) _ _ (eq-eqb (first_bad ws fs) (length ws) e))
+beside : (ws fs : List ℕ) → length ws ≡ length fs → (k : ℕ) → k < length ws → good_beside (get_or (zip ws fs) k (0, 0)) ≡ good_pair (get_or ws k 0) (get_or fs k 0)
+beside ws fs e k l = ap good_beside (get_or-zip ws fs k (0, 0) l (omega arith))
 
--- where every pair is good, none is found bad
-all_good : (ws fs : List ℕ) → length ws ≡ length fs → ((k : ℕ) → k < length ws → good_pair (get_or ws k 0) (get_or fs k 0) ≡ true) → first_bad ws fs ≡ length ws
-all_good [] fs e r = refl
-all_good (w ∷ ws) [] e r = absurd (let z : ⊥ = omega arith in z)
-all_good (w ∷ ws) (f ∷ fs) e r =
-    cond-true (good_pair w f) _ _ (r 0 (suc-le-suc zero-le)) ∙ (let more = all_good ws fs (omega arith) (λ k l. r (suc k) (suc-le-suc l)) in omega arith)
+-- the first bad pair is at p where every pair before p is good, and the one at p is not
+first_bad_is : (ws fs : List ℕ) → length ws ≡ length fs → (p : ℕ) → p ≤ length ws → ((k : ℕ) → k < p → good_pair (get_or ws k 0) (get_or fs k 0) ≡ true) → (p < length ws → good_pair (get_or ws p 0) (get_or fs p 0) ≡ false) → first_bad ws fs ≡ p
+first_bad_is ws fs e p l before bad =
+    let long = length-zip ws fs in
+    zipped ws fs ∙ prefix_len_is good_beside (zip ws fs) p (0, 0) (omega arith) (λ k h. beside ws fs e k (omega arith) ∙ before k h) (λ h. beside ws fs e p (omega arith) ∙ bad (omega arith))
 
-one_good : (w f p n : ℕ) → cond (good_pair w f) (1 + p) 0 ≡ suc n → (good_pair w f ≡ true) × (p ≡ n)
-one_good w f p n e =
-    elim (cases_Bool (good_pair w f)) [
-      | inl t ↦ (t, (let x = cond-true (good_pair w f) (1 + p) 0 t in omega arith))
-      | inr t ↦ absurd (let x = cond-false (good_pair w f) (1 + p) 0 t in let z : ⊥ = omega arith in z)
-    ]
-
--- where none is found bad, every pair is good
-each_good : (ws fs : List ℕ) → first_bad ws fs ≡ length ws → (k : ℕ) → k < length ws → good_pair (get_or ws k 0) (get_or fs k 0) ≡ true
-each_good [] fs e k l = absurd (let z : ⊥ = omega arith in z)
-each_good (w ∷ ws) [] e k l = absurd (let z : ⊥ = omega arith in z)
-each_good (w ∷ ws) (f ∷ fs) e zero l = (one_good w f (first_bad ws fs) (length ws) e).0
-each_good (w ∷ ws) (f ∷ fs) e (suc k) l = each_good ws fs (one_good w f (first_bad ws fs) (length ws) e).1 k (omega arith)
+pub first_bad_refused : {A : Type 0} (join : List ℕ → List ℕ → A) (ws fs : List ℕ) (p : ℕ) → FirstBad ws fs p → refused (bad_rows p) ≡ joined join ws fs
+first_bad_refused join ws fs p bad =
+    let fit = bad.fit in
+    let inside = bad.inside in
+    let e = first_bad_is ws fs (fitting_parts ws fs bad.fit).0 p (omega arith) bad.before (λ _. bad.bad) in
+    grind (arith, nat_tests)
 
 -- lawful rows are answered
 pub lawful_answered : {A : Type 0} (join : List ℕ → List ℕ → A) (ws fs : List ℕ) → Rows ws fs → answered (join ws fs) ≡ joined join ws fs
 lawful_answered join ws fs rows =
-    joined_all join ws fs rows.fit (all_good ws fs (fitting_parts ws fs rows.fit).0 rows.good)
+    let fit = rows.fit in
+    let e = first_bad_is ws fs (fitting_parts ws fs rows.fit).0 (length ws) (omega arith) rows.good (λ h. absurd (omega arith)) in
+    grind (arith, nat_tests)
 
 -- rows that are answered are lawful, and the answer is the joining's
 pub record Answered {A : Type 0} (join : List ℕ → List ℕ → A) (ws fs : List ℕ) (x : A) : Type 0 where
@@ -49,13 +48,17 @@ pub record Answered {A : Type 0} (join : List ℕ → List ℕ → A) (ws fs : L
   pub is : x ≡ join ws fs
 
 pub answered_lawful : {A : Type 0} (join : List ℕ → List ℕ → A) (ws fs : List ℕ) (x : A) → answered x ≡ joined join ws fs → Answered join ws fs x
-answered_lawful join ws fs x h =
-    elim (cases_Bool (fitting ws fs)) [
-      | inl a ↦ elim (cases_Bool (eqb (first_bad ws fs) (length ws))) [
-        | inl b ↦
-            let e = eqb-true (first_bad ws fs) (length ws) b in
-            record { rows = record { fit = a; good = each_good ws fs e }; is = (let y = h ∙ sym (joined_all join ws fs a e) in cc) }
-        | inr b ↦ absurd (let y = h ∙ cond-true (fitting ws fs) _ _ a ∙ cond-false (eqb (first_bad ws fs) (length ws)) _ _ b in let z : ◌≡◌ {A = ℕ} 0 1 = cc in let w : ⊥ = omega arith in w)
-      ]
-      | inr a ↦ absurd (let y = h ∙ cond-false (fitting ws fs) _ _ a in let z : ◌≡◌ {A = ℕ} 0 1 = cc in let w : ⊥ = omega arith in w)
-    ]
+answered_lawful join ws fs x =
+    cond_both (fitting ws fs) _ _ (λ t. answered x ≡ t → Answered join ws fs x)
+    (λ fit. cond_both (eqb (first_bad ws fs) (length ws)) _ _ (λ t. answered x ≡ t → Answered join ws fs x)
+    (λ all e. record {
+      rows = record {
+        fit = fit;
+        good = λ k l.
+            let e = (fitting_parts ws fs fit).0 in
+            sym (beside ws fs e k l) ∙ prefix_len_passes good_beside (zip ws fs) k (0, 0) (omega (arith, zipped ws fs, eqb-true (first_bad ws fs) (length ws) all));
+      };
+      is = cc;
+    })
+    (λ _ e. cc))
+    (λ _ e. cc)

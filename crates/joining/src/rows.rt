@@ -24,12 +24,14 @@ pub fn check_rows(weights: &[u8], figures: &[u32]) -> Result<(), JoiningFault>
     if weights.len() != figures.len() || weights.is_empty() || weights.len() > LONGEST_ROW {
         return Err(JoiningFault::Lengths);
     }
-    for (place, weight) in weights.iter().enumerate() {
-        if !good_pair(*weight, figures[place]) {
-            return Err(JoiningFault::Pair(place));
-        }
+    let first_bad = weights
+        .iter()
+        .zip(figures)
+        .position(|(weight, figure)| !good_pair(*weight, *figure));
+    match first_bad {
+        Some(place) => Err(JoiningFault::Pair(place)),
+        None => Ok(()),
     }
-    Ok(())
 }
 
 // Whether one weight and its figure are within their limits; every weight of 8 bits is at most 255.
