@@ -1,4 +1,4 @@
-use Rattle.std.proofs.Common.{◌≡◌, ◌+◌, ◌<◌, ◌≤◌, length}
+use Rattle.std.proofs.Common.{◌≡◌, ◌+◌, ◌*◌, ◌<◌, ◌≤◌, length}
 use Rattle.std.specs.Iterator.Adapters.{zip_first, zip_second}
 use Rattle.std.specs.Slice.Iter.{iter_rest}
 use Rattle.joining.specs.Joinings.{weighed}
@@ -9,4 +9,4 @@ abbrev pub invariant-loop-weight : goal.invariant-loop-weight
 invariant-loop-weight l =
     let ws = iter_rest (zip_first l.weight-iterator) in
     let fs = iter_rest (zip_second l.weight-iterator) in
-    (goal.iterator-loop-weight).can_next l.weight-iterator × (goal.iterator-loop-weight).is_finite l.weight-iterator × (length ws ≡ length fs) × (l.sum + weighed ws fs ≡ weighed l.weights l.figures) × (weighed l.weights l.figures ≤ 4080000000000) × (0 < l.all)
+    (length ws ≡ length fs) × (l.sum + weighed ws fs ≡ weighed l.weights l.figures) × (weighed l.weights l.figures ≤ l.all * 1000000000) × (l.all ≤ 4080) × (0 < l.all)
