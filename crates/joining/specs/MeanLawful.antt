@@ -14,8 +14,8 @@ use Rattle.joining.specs.RowFacts.{row_facts}
 -- the weighted sum does not fall where no figure does
 weighed_rises : (ws fs gs : List ℕ) → length ws ≡ length fs → length ws ≡ length gs → NoneFalls fs gs → weighed ws fs ≤ weighed ws gs
 weighed_rises [] fs gs d e r = omega arith
-weighed_rises (w ∷ ws) [] gs d e r = absurd (let z : ⊥ = omega arith in z)
-weighed_rises (w ∷ ws) (f ∷ fs) [] d e r = absurd (let z : ⊥ = omega arith in z)
+weighed_rises (w ∷ ws) [] gs d e r = omega arith
+weighed_rises (w ∷ ws) (f ∷ fs) [] d e r = omega arith
 weighed_rises (w ∷ ws) (f ∷ fs) (g ∷ gs) d e r =
     let here = mul-le-mul_left w (r 0 (suc-le-suc zero-le)) in
     let more = weighed_rises ws fs gs (omega arith) (omega arith) (λ k l. r (suc k) (suc-le-suc l)) in
