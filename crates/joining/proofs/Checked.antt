@@ -14,6 +14,7 @@ use Rattle.joining.specs.Rows.{Rows, fitting, good_pair, first_bad, bad_rows, jo
 abbrev good_beside : ℕ × ℕ → Bool
 good_beside pair = good_pair pair.0 pair.1
 
+-- `first_bad` is where the pairs, read as one list, stop being good
 zipped : (ws fs : List ℕ) → first_bad ws fs ≡ prefix_len good_beside (zip ws fs)
 zipped [] fs = refl
 zipped (w ∷ ws) [] = refl
@@ -55,8 +56,8 @@ answered_lawful join ws fs x =
       rows = record {
         fit = fit;
         good = λ k l.
-            let e = (fitting_parts ws fs fit).0 in
-            sym (beside ws fs e k l) ∙ prefix_len_passes good_beside (zip ws fs) k (0, 0) (omega (arith, zipped ws fs, eqb-true (first_bad ws fs) (length ws) all));
+            let long = (fitting_parts ws fs fit).0 in
+            sym (beside ws fs long k l) ∙ prefix_len_passes good_beside (zip ws fs) k (0, 0) (omega (arith, zipped ws fs, eqb-true (first_bad ws fs) (length ws) all));
       };
       is = cc;
     })

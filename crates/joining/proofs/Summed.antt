@@ -13,5 +13,5 @@ bounds ws fs rows =
     let row = row_facts ws fs rows in (
       weighed_below 1000000000 ws fs row.as_long row.bounded,
       omega (arith, total_is_sum ws, sum_by-le (λ w. w) 255 ws (All-from_get_or (λ w. w ≤ 255) ws 0 row.light)),
-      total_positive ws fs rows,
+      total_positive ws row.some row.weighs,
     )

@@ -1,14 +1,14 @@
 -- The mean keeps the laws; proofs only.
-use Rattle.std.specs.Prelude.{◌≡◌, ℕ, suc, ◌*◌, ◌<◌, ◌≤◌, List, [], ◌∷◌, length, replicate, slice_index}
-use Rattle.std.proofs.lemmas.List.Recursion.{is_sum_by}
-use Rattle.std.proofs.lemmas.List.Sums.{get_or-le-sum_by}
-use Rattle.std.proofs.Common.{refl, sum, sym, zero-le, suc-le-suc, mul-le-mul_left, mul_comm, add-mul, le-div_iff_mul-le, div-mul-le_self, arith}
+use Rattle.std.specs.Prelude.{◌≡◌, ℕ, suc, ◌*◌, ◌<◌, ◌≤◌, List, [], ◌∷◌, length, replicate, sum, slice_index}
+use Rattle.std.proofs.Common.{refl, sym, zero-le, suc-le-suc, mul-le-mul_left, mul_comm, add-mul, le-div_iff_mul-le, div-mul-le_self, arith}
 use Rattle.std.proofs.Math.Nat.{div-le_of_le-mul}
 use Rattle.std.proofs.lemmas.List.{length-replicate, get_or-replicate}
+use Rattle.std.proofs.lemmas.List.Recursion.{is_sum_by}
+use Rattle.std.proofs.lemmas.List.Sums.{get_or-le-sum_by}
 use Rattle.joining.specs.Rows.{Rows}
 use Rattle.joining.specs.Laws.{Lawful, NoneFalls, least, greatest}
 use Rattle.joining.specs.Joinings.{weight_total, weighed, mean}
-use Rattle.joining.specs.Extremes.{least_is, greatest_is}
+use Rattle.joining.specs.Extremes.{least_below, greatest_above}
 use Rattle.joining.specs.RowFacts.{row_facts}
 
 -- the weighted sum does not fall where no figure does
@@ -41,21 +41,20 @@ weighed_below m ws fs e r =
 pub total_is_sum : (ws : List ℕ) → weight_total ws ≡ sum ws
 total_is_sum = is_sum_by weight_total (λ w. w) refl (λ _ _. refl)
 
-pub total_positive : (ws fs : List ℕ) → Rows ws fs → 0 < weight_total ws
-total_positive ws fs r =
-    let row = row_facts ws fs r in
-    omega (arith, total_is_sum ws, row.weighs 0 row.some, get_or-le-sum_by (λ w. w) ws 0 0 row.some)
+pub total_positive : (ws : List ℕ) → 1 ≤ length ws → ((k : ℕ) → k < length ws → 1 ≤ slice_index ws k) → 0 < weight_total ws
+total_positive ws some r = omega (arith, total_is_sum ws, r 0 some, get_or-le-sum_by (λ w. w) ws 0 0 some)
+
+positive : (ws fs : List ℕ) → Rows ws fs → 0 < weight_total ws
+positive ws fs r = let row = row_facts ws fs r in total_positive ws row.some row.weighs
 
 pub mean_lawful : Lawful mean
 mean_lawful = record {
   above_least = λ ws fs r.
-      let row = row_facts ws fs r in
-      let low = weighed_above (least fs) ws fs row.as_long (least_is fs (omega arith)).none_below in
-      (le-div_iff_mul-le (total_positive ws fs r)).1 (omega (arith, mul_comm (least fs) (weight_total ws)));
+      let low = weighed_above (least fs) ws fs (row_facts ws fs r).as_long (least_below fs) in
+      (le-div_iff_mul-le (positive ws fs r)).1 (omega (arith, mul_comm (least fs) (weight_total ws)));
   below_greatest = λ ws fs r.
-      let row = row_facts ws fs r in
-      div-le_of_le-mul (weight_total ws) (weighed_below (greatest fs) ws fs row.as_long (greatest_is fs (omega arith)).none_above);
+      div-le_of_le-mul (weight_total ws) (weighed_below (greatest fs) ws fs (row_facts ws fs r).as_long (greatest_above fs));
   monotone = λ ws fs gs r s n.
       let up = weighed_rises ws fs gs (row_facts ws fs r).as_long (row_facts ws gs s).as_long n in
-      (le-div_iff_mul-le (total_positive ws fs r)).1 (omega (arith, div-mul-le_self (weighed ws fs) (weight_total ws)));
+      (le-div_iff_mul-le (positive ws fs r)).1 (omega (arith, div-mul-le_self (weighed ws fs) (weight_total ws)));
 }

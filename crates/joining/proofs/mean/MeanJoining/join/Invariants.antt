@@ -4,7 +4,7 @@ use Rattle.std.specs.Slice.Iter.{iter_rest}
 use Rattle.joining.specs.Joinings.{weighed}
 use Rattle.joining.proofs.mean.MeanJoining.join.Given as goal
 
--- the sum so far and the weighted sum of what is left make up the whole, which fits 64 bits; the weights have a total
+-- the sum so far and the weighted sum of what is left make up the whole, which the weights' total bounds; the total is 1 to 4,080
 abbrev pub invariant-loop-weight : goal.invariant-loop-weight
 invariant-loop-weight l =
     let ws = iter_rest (zip_first l.weight-iterator) in
