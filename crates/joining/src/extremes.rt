@@ -30,7 +30,7 @@ pub(crate) fn extreme<C: Choice>(weights: &[u8], figures: &[u32]) -> Result<u32,
     ensures extreme { IfOk result (λ figure. C.IsExtreme figures.now figure) }
 {
     check_rows(weights, figures)?;
-    // The rules of the project ask for a loop here, and not for a fold.
+    // A loop over the figures and not a fold, as docs/DECISIONS.md says of joinings.
     let mut extreme = figures[0];
     for figure in figures {
         extreme = C::pick(extreme, *figure);

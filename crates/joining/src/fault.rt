@@ -33,7 +33,7 @@ impl Fault for JoiningFault {
     }
 }
 
-/// A fault prints the line of its refusal.
+/// A fault prints the line of its refusal. (Written out: what a derive prints no contract says.)
 impl fmt::Display for JoiningFault {
     ghost output = { λ fault. Some (refusal_line (joining_refusal fault)) };
 

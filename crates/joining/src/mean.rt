@@ -19,7 +19,7 @@ impl Joining for Mean {
     fn join(&self, weights: &[u8], figures: &[u32]) -> Result<u32, JoiningFault> {
         check_rows(weights, figures)?;
         let all = weight_total(weights);
-        // The rules of the project ask for a loop here, with the sum in 64 bits.
+        // A loop over the pairs and not a fold, as docs/DECISIONS.md says of joinings.
         let mut sum: u64 = 0;
         for (weight, figure) in weights.iter().zip(figures) {
             sum += u64::from(*weight) * u64::from(*figure);

@@ -18,6 +18,7 @@ use text::{Parsed, Sign, number_at, sign_at};
 
 impl Source<'_> {
     // The lines of all states, read and written.
+    #[tactic(auto, using(crate::proofs::Walked::line_refused))]
     pub(crate) fn write_lines(&self, from: Past, tables: &mut Tables) -> Result<Past, PlanFault>
         ensures { Leaves (told plan_refusal result) tables.old tables.new (walked (grow_all grow_line) (put_all grow_line put_line) (lines_at self.now.limits.states self.now.text.now self.now.limits from.used from.next) from.used) }
     {
