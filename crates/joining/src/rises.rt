@@ -14,8 +14,8 @@ pub fn rise<J: Joining>(
     before: &[u32],
     after: &[u32],
 ) -> Result<u32, JoiningFault>
-    ensures answer { told joining_refusal result ≡ risen (J.Joining.meaning joining.now) weights.now before.now after.now }
-    ensures laws { LawfulRise (J.Joining.meaning joining.now) weights.now before.now after.now (told joining_refusal result) }
+    ensures answer { told joining_refusal result ≡ risen (J.meaning joining.now) weights.now before.now after.now }
+    ensures laws { LawfulRise (J.meaning joining.now) weights.now before.now after.now (told joining_refusal result) }
 {
     let low = joining.join(weights, before)?;
     let high = joining.join(weights, after)?;

@@ -23,7 +23,7 @@ pub struct Purge<'a> {
 impl Purge<'_> {
     /// The price in ticks: the cost, and what the outcomes' figures join to.
     pub fn price<J: Joining>(&self, joining: &J) -> Result<u32, JoiningFault>
-        ensures { told joining_refusal result ≡ priced (J.Joining.meaning joining.now) self.now.cost self.now.weights.now self.now.figures.now }
+        ensures { told joining_refusal result ≡ priced (J.meaning joining.now) self.now.cost self.now.weights.now self.now.figures.now }
     {
         let figure = joining.join(self.weights, self.figures)?;
         Ok(TICKS_PER_UNIT * u32::from(self.cost) + figure)
