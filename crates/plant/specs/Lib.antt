@@ -5,6 +5,7 @@ pub mod Goals
 pub mod Faults
 pub mod Ranges
 pub mod Tank
+pub mod TankLaid
 pub mod TankKinds
 pub mod TankLawful
 pub mod Surcharges

@@ -1,6 +1,6 @@
 -- What a tank line means: F pieces are stuck at most, and the tank has the levels 0 to P;
 -- a rest costs r and a jet b. In a state, f pieces are stuck and the tank stands at level p.
-use Rattle.std.specs.Prelude.{◌≡◌, ℕ, zero, suc, ◌+◌, ◌-◌, ◌*◌, ◌/◌, ◌%◌, min, Bool, cond, ◌&&◌, List, [], ◌∷◌, map, Some, None, Option, ◌==◌, nat_le}
+use Rattle.std.specs.Prelude.{ℕ, zero, suc, ◌+◌, ◌-◌, ◌*◌, ◌/◌, ◌%◌, min, Bool, cond, ◌&&◌, List, [], ◌∷◌, map, Some, None, Option, ◌==◌, nat_le}
 use Rattle.std.specs.List.{range_with_len}
 use Rattle.refusal.specs.Told.{Told, answered, and_then}
 use Rattle.plant.specs.Belts.{Belt, Move, Outcome}
@@ -57,11 +57,6 @@ tank_line F P r b = record {
 -- the state with f pieces at level p, where the line has one
 abbrev pub state_at : ℕ → ℕ → ℕ → ℕ → Option ℕ
 state_at F P f p = cond (nat_le f F && nat_le p P) (Some (state_of P f p)) None
-
--- what stands in that state, by its pieces and its level: a goal where no piece is stuck, and else the moves
-pub record LaidOut (F P r b f p s : ℕ) : Type 0 where
-  pub goal : (tank_line F P r b).goal s ≡ (f == 0)
-  pub moves : (tank_line F P r b).moves s ≡ cond (f == 0) [] (tank_moves P r b f p)
 
 -- what is told of four numbers: 1 to 15 pieces, 1 to 15 levels, a rest of 1 to 1,000 units, a jet of 1 to 125;
 -- the first that is out of its range is refused

@@ -1,7 +1,7 @@
 //! A tank line, and what stands at each of its numbers.
 ghost use Rattle.std.specs.Prelude.{◌≡◌, ◌+◌, ◌/◌, ◌%◌, ◌≤◌, IfSome};
 ghost use Rattle.plant.specs.Faults.{plant_refusal};
-ghost use Rattle.plant.specs.Tank.{LaidOut, state_at, state_of, tank_line, tank_told};
+ghost use Rattle.plant.specs.Tank.{state_at, state_of, tank_told};
 ghost use Rattle.refusal.specs.Told.{told_as};
 
 use crate::fault::PlantFault;
@@ -34,9 +34,11 @@ pub struct TankLine {
 }
 
 impl TankLine {
+    ghost use Rattle.plant.specs.TankLaid.{LaidOut, belt_of};
+
     /// The line with 1 to 15 pieces and 1 to 15 levels, where a rest costs 1 to 1,000 units and a jet 1 to 125.
     pub fn new(pieces: u64, levels: u64, rest: u64, jet: u64) -> Result<TankLine, PlantFault>
-        ensures { told_as (λ t. tank_line t.pieces t.levels t.rest t.jet) plant_refusal result ≡ tank_told pieces levels rest jet }
+        ensures { told_as belt_of plant_refusal result ≡ tank_told pieces levels rest jet }
     {
         let pieces = ranged(0, 1, MOST_PIECES, pieces)?;
         let levels = ranged(1, 1, MOST_LEVELS, levels)?;
@@ -53,7 +55,7 @@ impl TankLine {
     /// The state with so many pieces stuck and the tank at this level, where the line has one.
     pub fn state_at(&self, pieces: u16, level: u16) -> Option<u16>
         ensures answer { result ≡ state_at self.now.pieces self.now.levels pieces level }
-        ensures means { IfSome result (λ s. LaidOut self.now.pieces self.now.levels self.now.rest self.now.jet pieces level s) }
+        ensures means { IfSome result (λ s. LaidOut self.now pieces level s) }
     {
         if pieces > self.pieces || level > self.levels {
             return None;

@@ -1,7 +1,8 @@
 //! A tank line is a plant.
 ghost use Rattle.std.specs.Prelude.{◌≡◌};
-ghost use Rattle.plant.specs.Tank.{most_jets, tank_line};
+ghost use Rattle.plant.specs.Tank.{most_jets};
 ghost use Rattle.plant.specs.TankKinds.{FoundMove, FoundOutcome};
+ghost use Rattle.plant.specs.TankLaid.{belt_of};
 ghost use Rattle.plant.specs.TankLawful.{tank_lawful};
 
 use crate::plant::Plant;
@@ -10,29 +11,28 @@ use crate::tank::line::{MOST_JETS, TankLine};
 use crate::tank::weights::stored_weight;
 
 impl TankLine {
-    // The move at a number of a state.
-    fn move_at(&self, state: u16, number: u8) -> TankMove
-        ensures { FoundMove self.now.pieces self.now.levels self.now.rest self.now.jet state number result }
+    // The move at a number of a state, where there is one.
+    fn move_at(&self, state: u16, number: u8) -> Option<TankMove>
+        ensures { FoundMove self.now state number result }
     {
         if number >= self.move_count(state) {
-            TankMove::NoMove
-        } else if number == 0 {
-            TankMove::Rest
-        } else {
-            TankMove::Jets(number)
+            return None;
+        }
+        match number {
+            0 => Some(TankMove::Rest),
+            jets => Some(TankMove::Jets(jets)),
         }
     }
 
-    // The outcome at a number of a move.
-    fn outcome_at(&self, state: u16, number: u8, outcome: u8) -> TankOutcome
-        ensures { FoundOutcome self.now.pieces self.now.levels self.now.rest self.now.jet state number outcome result }
+    // The outcome at a number of a move, where there is one.
+    #[tactic(auto, using(crate::proofs::TankFound::found_freed))]
+    fn outcome_at(&self, state: u16, number: u8, outcome: u8) -> Option<TankOutcome>
+        ensures { FoundOutcome self.now state number outcome result }
     {
-        match self.move_at(state, number) {
-            TankMove::NoMove => TankOutcome::NoOutcome,
-            TankMove::Rest if outcome > 0 => TankOutcome::NoOutcome,
-            TankMove::Rest => TankOutcome::Rested,
-            TankMove::Jets(jets) if outcome > jets => TankOutcome::NoOutcome,
-            TankMove::Jets(jets) => TankOutcome::Freed(jets, outcome),
+        match self.move_at(state, number)? {
+            TankMove::Rest if outcome == 0 => Some(TankOutcome::Rested),
+            TankMove::Jets(jets) if outcome <= jets => Some(TankOutcome::Freed(jets, outcome)),
+            _ => None,
         }
     }
 }
@@ -46,7 +46,7 @@ fn most_jets(pieces: u16, level: u16) -> u8
 
 /// A tank line reads by the pieces and the level of each state.
 impl Plant for TankLine {
-    ghost meaning = { λ t. tank_line t.pieces t.levels t.rest t.jet };
+    ghost meaning = { belt_of };
 
     ghost lawful = { λ t. tank_lawful t.pieces t.levels t.rest t.jet t.some.0 t.some.1 t.full.1 t.slow.0 t.slow.1 t.dear.0 t.dear.1 };
 
@@ -72,17 +72,17 @@ impl Plant for TankLine {
 
     fn cost(&self, state: u16, number: u8) -> u16 {
         match self.move_at(state, number) {
-            TankMove::NoMove => 0,
-            TankMove::Rest => self.rest,
-            TankMove::Jets(jets) => self.jet * u16::from(jets),
+            None => 0,
+            Some(TankMove::Rest) => self.rest,
+            Some(TankMove::Jets(jets)) => self.jet * u16::from(jets),
         }
     }
 
     fn outcome_count(&self, state: u16, number: u8) -> u8 {
         match self.move_at(state, number) {
-            TankMove::NoMove => 0,
-            TankMove::Rest => 1,
-            TankMove::Jets(jets) => jets + 1,
+            None => 0,
+            Some(TankMove::Rest) => 1,
+            Some(TankMove::Jets(jets)) => jets + 1,
         }
     }
 
@@ -90,9 +90,9 @@ impl Plant for TankLine {
         let pieces = self.pieces_at(state);
         let level = self.level_at(state);
         match self.outcome_at(state, number, outcome) {
-            TankOutcome::NoOutcome => 0,
-            TankOutcome::Rested => self.state(pieces, (level + 1).min(self.levels)),
-            TankOutcome::Freed(jets, freed) => {
+            None => 0,
+            Some(TankOutcome::Rested) => self.state(pieces, (level + 1).min(self.levels)),
+            Some(TankOutcome::Freed(jets, freed)) => {
                 self.state(pieces - u16::from(freed), level - u16::from(jets))
             }
         }
@@ -100,9 +100,9 @@ impl Plant for TankLine {
 
     fn outcome_weight(&self, state: u16, number: u8, outcome: u8) -> u8 {
         match self.outcome_at(state, number, outcome) {
-            TankOutcome::NoOutcome => 0,
-            TankOutcome::Rested => 1,
-            TankOutcome::Freed(jets, freed) => stored_weight(jets, freed),
+            None => 0,
+            Some(TankOutcome::Rested) => 1,
+            Some(TankOutcome::Freed(jets, freed)) => stored_weight(jets, freed),
         }
     }
 }

@@ -1,5 +1,5 @@
 use Rattle.std.proofs.Common.{ℕ, sym, subst, arith, rules}
-use Rattle.plant.specs.Tank.{LaidOut}
+use Rattle.plant.specs.TankLaid.{LaidOut}
 use Rattle.plant.proofs.TankFound.{laid_out}
 use Rattle.plant.proofs.tank.line.TankLine.state_at.Goals as goal
 
@@ -10,5 +10,5 @@ returns c =
     let p = c.args.level in
     record {
       answer = search rules;
-      means = subst (λ (s : ℕ). LaidOut t.pieces t.levels t.rest t.jet f p s) (sym c.state.ensures) (laid_out t.pieces t.levels t.rest t.jet f p (omega arith) (omega arith));
+      means = subst (λ (s : ℕ). LaidOut t f p s) (sym c.state.ensures) (laid_out t f p (omega arith) (omega arith));
     }
