@@ -5,7 +5,8 @@ use Rattle.refusal.specs.Told.{answered}
 use Rattle.plant.specs.declared.bars.Bar.{Bar}
 use Rattle.plant.specs.Belts.{Belt, Move, move_count}
 use Rattle.plant.specs.Bars.{bars_it, barred, open_from, open_moves, left_of, barring, open_pair, bar_told, open_before, moved_up, without, LaneClosed}
-use Rattle.plant.proofs.BarredPairs.{barred_push, or_none}
+use Rattle.std.proofs.Math.Bool.{or-false}
+use Rattle.std.proofs.lemmas.List.Recursion.{or_push}
 use Rattle.plant.proofs.OpenMoves.{left_open}
 
 -- what was answered was open, and one of several
@@ -66,12 +67,15 @@ module _ (xs : List Bar) (b : Belt) (s k : ℕ) (ok : Taken xs b s k) where
   abbrev new : List Bar
   new = xs ++ (record { state = s; number = k } ∷ [])
 
+  barred_push : (t n : ℕ) → barred new t n ≡ (barred xs t n || bars_it t n (record { state = s; number = k }))
+  barred_push t n = or_push (λ ys. barred ys t n) (bars_it t n) refl (λ _ _. refl) xs (record { state = s; number = k })
+
   same_number : (t n : ℕ) → (bars_it t n (record { state = s; number = k }) ≡ false) → barred new t n ≡ barred xs t n
-  same_number t n e = barred_push xs (record { state = s; number = k }) t n ∙ ap (λ c. barred xs t n || c) e ∙ or_none (barred xs t n)
+  same_number t n e = barred_push t n ∙ ap (λ c. barred xs t n || c) e ∙ or-false (barred xs t n)
 
   less : (open_moves new b s ≡ without (moved_up xs s k) (open_moves xs b s)) × (moved_up xs s k < length (open_moves xs b s))
   less = one_less (barred new s) (barred xs s) k
-      (barred_push xs (record { state = s; number = k }) s k ∙ or_right (barred xs s k) (eqb s s && eqb k k) (rw (eq-eqb s s refl, eq-eqb k k refl) refl))
+      (barred_push s k ∙ or_right (barred xs s k) (eqb s s && eqb k k) (rw (eq-eqb s s refl, eq-eqb k k refl) refl))
       ok.unbarred
       (λ n d. same_number s n (rw (eq-eqb s s refl, ne_eqb k n (λ e. d (sym e))) refl))
       k 0 (b.moves s) (omega arith) ok.inside

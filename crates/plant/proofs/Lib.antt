@@ -1,6 +1,5 @@
 pub mod TankFound
 pub mod SurchargesRead
-pub mod BarredPairs
 pub mod OpenMoves
 pub mod LaneClosed
 pub mod Compared

@@ -1,27 +1,12 @@
--- A walk over the moves of a state that passes over the barred ones.
-use Rattle.std.proofs.Common.{◌≡◌, ℕ, suc, ◌+◌, ◌-◌, ◌<◌, ◌≤◌, Bool, true, false, List, [], ◌∷◌, length, get_or, drop, sym, refl, ap, ◌∙◌, arith}
-use Rattle.std.proofs.lemmas.List.{at_drop_more, at_drop_all, get_or_past}
-use Rattle.std.proofs.lemmas.Bool.{cond-true, cond-false}
-use Rattle.plant.specs.Belts.{Move, no_move}
-use Rattle.plant.specs.Bars.{open_from, left_of}
-
--- the flag that was read for number k says whether it is shut
-pub flagged : (flags : List Bool) (shut : ℕ → Bool) → ((k : ℕ) → k < 16 → get_or flags k false ≡ shut k) → (i k : ℕ) → i ≡ k → k < 16 → (t : Bool) → get_or flags i false ≡ t → shut k ≡ t
-flagged flags shut all i k e few t read = sym (all k few) ∙ ap (λ j. get_or flags j false) (sym e) ∙ read
-
--- the open ones among the moves from number k on
-abbrev pub open_past : (ℕ → Bool) → List Move → ℕ → List Move
-open_past shut vs k = open_from shut k (drop k vs)
-
-module _ (shut : ℕ → Bool) (vs : List Move) (k : ℕ) where
-  pub open_shut : k < length vs → shut k ≡ true → open_past shut vs k ≡ open_past shut vs (k + 1)
-  open_shut inside h = at_drop_more (open_from shut k) vs k no_move inside ∙ cond-true (shut k) _ _ h
-
-  pub open_found : k < length vs → shut k ≡ false → open_past shut vs k ≡ get_or vs k no_move ∷ open_past shut vs (k + 1)
-  open_found inside h = at_drop_more (open_from shut k) vs k no_move inside ∙ cond-false (shut k) _ _ h
-
-  pub open_end : length vs ≤ k → open_past shut vs k ≡ []
-  open_end past = at_drop_all (open_from shut k) vs k past
+-- The moves of a state that are not barred, by their numbers.
+use Rattle.std.proofs.Common.{◌≡◌, ℕ, zero, suc, ◌+◌, ◌<◌, ◌≤◌, Bool, true, false, cond, not, List, [], ◌∷◌, length, get_or, map, filter, slice_get, sym, refl, ap, ◌∙◌, arith}
+use Rattle.std.specs.List.{range_with_len}
+use Rattle.std.proofs.lemmas.List.{length-map}
+use Rattle.plant.specs.declared.bars.Bar.{Bar}
+use Rattle.plant.specs.Belts.{Belt, Move, no_move, move_count, move_at}
+use Rattle.plant.specs.Laws.{LawfulBelt}
+use Rattle.plant.specs.Bars.{barred, open_from, open_moves, left_of, barring}
+use Rattle.plant.specs.BarsHeld.{unset, move_found}
 
 pub left_open : (xs all : List Move) → 1 ≤ length xs → left_of xs all ≡ xs
 left_open [] all h = absurd (omega arith)
@@ -31,48 +16,43 @@ pub left_all : (xs all : List Move) → length xs ≡ 0 → left_of xs all ≡ a
 left_all [] all h = refl
 left_all (x ∷ xs) all h = absurd (omega arith)
 
--- a walk that stands before move k, looks for the open move `number`, and has `left` open ones still to pass
-pub record Walked (shut : ℕ → Bool) (vs : List Move) (k left number : ℕ) : Type 0 where
-  pub same : get_or (open_past shut vs k) left no_move ≡ get_or (open_past shut vs 0) number no_move
-  pub rest : left + length (open_past shut vs 0) ≡ number + length (open_past shut vs k)
+-- the move at a place of some numbers of moves
+found_at : (b : Belt) (s : ℕ) (ns : List ℕ) (n : ℕ) → get_or (map (move_at b s) ns) n no_move ≡ move_found b s (slice_get ns n)
+found_at b s [] n = refl
+found_at b s (k ∷ ns) zero = refl
+found_at b s (k ∷ ns) (suc n) = found_at b s ns n
 
-module _ (shut : ℕ → Bool) (vs : List Move) (k left number : ℕ) (walked : Walked shut vs k left number) where
-  pub walk_shut : k < length vs → shut k ≡ true → Walked shut vs (k + 1) left number
-  walk_shut inside h =
-      let step = open_shut shut vs k inside h in
-      record {
-        same = ap (λ (xs : List Move). get_or xs left no_move) (sym step) ∙ walked.same;
-        rest = omega (arith, ap length step, walked.rest);
-      }
+module _ (flags : List Bool) (shut : ℕ → Bool) (same : (k : ℕ) → k < 16 → get_or flags k false ≡ shut k) where
+  abbrev unset_from : ℕ → ℕ → List ℕ
+  unset_from i n = filter (λ k. not (get_or flags k false)) (range_with_len i n)
 
-  pub walk_open : k < length vs → shut k ≡ false → 1 ≤ left → Walked shut vs (k + 1) (left - 1) number
-  walk_open inside h some =
-      let step = open_found shut vs k inside h in
-      let one : left ≡ suc (left - 1) = omega arith in
-      record {
-        same = sym (ap (λ i. get_or (open_past shut vs k) i no_move) one ∙ ap (λ (xs : List Move). get_or xs (suc (left - 1)) no_move) step) ∙ walked.same;
-        rest = omega (arith, ap length step, walked.rest);
-      }
+  -- the open moves are those at the numbers whose flag is not set
+  open_by : (f : ℕ → Move) (i : ℕ) (vs : List Move) → i + length vs ≤ 16 → ((j : ℕ) → get_or vs j no_move ≡ f (i + j)) → open_from shut i vs ≡ map f (unset_from i (length vs))
+  open_by f i [] few at = refl
+  open_by f i (v ∷ vs) few at =
+      let here : v ≡ f i = at 0 ∙ ap f (omega arith) in
+      let more = open_by f (i + 1) vs (omega arith) (λ j. at (suc j) ∙ ap f (omega arith)) in
+      rw (sym (same i (omega arith))) (go (get_or flags i false) here more)
+    where
+      go : (t : Bool) → v ≡ f i → open_from shut (i + 1) vs ≡ map f (unset_from (i + 1) (length vs)) → cond t (open_from shut (i + 1) vs) (v ∷ open_from shut (i + 1) vs) ≡ map f (cond (not t) (i ∷ unset_from (i + 1) (length vs)) (unset_from (i + 1) (length vs)))
+      go true here more = more
+      go false here more = rw (here, more) refl
 
-  -- the open move with none left to pass is the one
-  pub walk_found : k < length vs → shut k ≡ false → left ≡ 0 → get_or (left_of (open_past shut vs 0) vs) number no_move ≡ get_or vs k no_move
-  walk_found inside h none =
-      let step = open_found shut vs k inside h in
-      ap (λ (xs : List Move). get_or xs number no_move) (left_open (open_past shut vs 0) vs (omega (arith, ap length step, walked.rest)))
-      ∙ sym walked.same
-      ∙ ap (λ i. get_or (open_past shut vs k) i no_move) none
-      ∙ ap (λ (xs : List Move). get_or xs 0 no_move) step
+-- a state's open moves by the flags that the code reads, and by so many numbers as the code asks for
+module _ (flags : List Bool) (held : List Bar) (n : ℕ) (xs : List Bar) (b : Belt) (s : ℕ) (laws : LawfulBelt b) (is : held ≡ xs) (same : (k : ℕ) → k < 16 → get_or flags k false ≡ barred held s k) (count : n ≡ move_count b s) where
+  open_is : open_moves xs b s ≡ map (move_at b s) (unset flags n)
+  open_is =
+      let few = laws.moves_few s in
+      rw (sym is, count) (open_by flags (barred held s) same (move_at b s) 0 (b.moves s) (omega arith) (λ j. ap (move_at b s) (omega arith)))
 
-  -- where no move was open, all are left
-  pub walk_none : length vs ≤ k → left ≡ number → get_or (left_of (open_past shut vs 0) vs) number no_move ≡ get_or vs number no_move
-  walk_none past none =
-      ap (λ (xs : List Move). get_or xs number no_move) (left_all (open_past shut vs 0) vs (omega (arith, ap length (open_end shut vs k past), walked.rest)))
+  pub open_length : length (open_moves xs b s) ≡ length (unset flags n)
+  open_length = ap length open_is ∙ length-map (unset flags n) (move_at b s)
 
-  -- where too few were open, there is no such move
-  pub walk_past : length vs ≤ k → (left ≡ number → ⊥) → get_or (left_of (open_past shut vs 0) vs) number no_move ≡ get_or vs (length vs) no_move
-  walk_past past some =
-      let end = open_end shut vs k past in
-      ap (λ (xs : List Move). get_or xs number no_move) (left_open (open_past shut vs 0) vs (omega (arith, ap length end, walked.rest)))
-      ∙ sym walked.same
-      ∙ ap (λ (xs : List Move). get_or xs left no_move) end
-      ∙ sym (get_or_past vs (length vs) no_move (omega arith))
+  -- where none is open, all are left
+  pub found_all : (m : ℕ) → length (unset flags n) ≡ 0 → move_at (barring xs b) s m ≡ move_at b s m
+  found_all m none = ap (λ (vs : List Move). get_or vs m no_move) (left_all (open_moves xs b s) (b.moves s) (open_length ∙ none))
+
+  pub found_open : (m : ℕ) → (length (unset flags n) ≡ 0 → ⊥) → move_at (barring xs b) s m ≡ move_found b s (slice_get (unset flags n) m)
+  found_open m some =
+      ap (λ (vs : List Move). get_or vs m no_move) (left_open (open_moves xs b s) (b.moves s) (omega (arith, open_length)) ∙ open_is)
+      ∙ found_at b s (unset flags n) m

@@ -1,5 +1,6 @@
 -- A belt on which some moves are barred, and how one bar more changes it.
-use Rattle.std.specs.Prelude.{◌≡◌, ℕ, zero, suc, ◌+◌, ◌<◌, Bool, false, cond, not, ◌&&◌, ◌||◌, List, [], ◌∷◌, ◌++◌, length, ◌==◌, ◌≢◌, nat_lt}
+use Rattle.std.specs.Prelude.{◌≡◌, ℕ, zero, suc, ◌+◌, ◌<◌, Bool, cond, not, ◌&&◌, List, [], ◌∷◌, ◌++◌, length, ◌==◌, ◌≢◌, nat_lt}
+use Rattle.std.specs.List.{list_any}
 use Rattle.refusal.specs.Told.{Told, answered, refused}
 use Rattle.plant.specs.declared.bars.Bar.{Bar}
 use Rattle.plant.specs.Belts.{Belt, Move, move_count}
@@ -11,8 +12,7 @@ bars_it s k x = x.state == s && x.number == k
 
 -- whether some pair does
 abbrev pub barred : List Bar → ℕ → ℕ → Bool
-barred [] s k = false
-barred (x ∷ xs) s k = bars_it s k x || barred xs s k
+barred xs s k = list_any (bars_it s k) xs
 
 -- of moves numbered from k on, those whose number is not shut, in their order
 abbrev pub open_from : (ℕ → Bool) → ℕ → List Move → List Move

@@ -9,7 +9,6 @@ mod barring;
 mod bars;
 mod compare;
 mod fault;
-mod pairs;
 mod plant;
 mod range;
 mod surcharge;
