@@ -18,15 +18,9 @@ fn same_belt<P: Plant, Q: Plant>(one: &P, other: &Q) -> bool
     ensures { Decides result (P.Plant.meaning one.now ≡ Q.Plant.meaning other.now) }
 {
     let count = one.states();
-    if count != other.states() || one.start() != other.start() {
-        return false;
-    }
-    for state in 0..count {
-        if !same_state(one, other, state) {
-            return false;
-        }
-    }
-    true
+    count == other.states()
+        && one.start() == other.start()
+        && (0..count).all(|state| same_state(one, other, state))
 }
 
 // Whether a state is a goal in both or in none, and has the same moves.
@@ -34,15 +28,9 @@ fn same_state<P: Plant, Q: Plant>(one: &P, other: &Q, state: u16) -> bool
     ensures { Decides result (((P.Plant.meaning one.now).goal state ≡ (Q.Plant.meaning other.now).goal state) × ((P.Plant.meaning one.now).moves state ≡ (Q.Plant.meaning other.now).moves state)) }
 {
     let count = one.move_count(state);
-    if one.is_goal(state) != other.is_goal(state) || count != other.move_count(state) {
-        return false;
-    }
-    for number in 0..count {
-        if !same_move(one, other, state, number) {
-            return false;
-        }
-    }
-    true
+    one.is_goal(state) == other.is_goal(state)
+        && count == other.move_count(state)
+        && (0..count).all(|number| same_move(one, other, state, number))
 }
 
 // Whether a move costs the same and has the same outcomes.
@@ -50,17 +38,9 @@ fn same_move<P: Plant, Q: Plant>(one: &P, other: &Q, state: u16, number: u8) -> 
     ensures { Decides result (move_at (P.Plant.meaning one.now) state number ≡ move_at (Q.Plant.meaning other.now) state number) }
 {
     let count = one.outcome_count(state, number);
-    if one.cost(state, number) != other.cost(state, number)
-        || count != other.outcome_count(state, number)
-    {
-        return false;
-    }
-    for outcome in 0..count {
-        if !same_outcome(one, other, state, number, outcome) {
-            return false;
-        }
-    }
-    true
+    one.cost(state, number) == other.cost(state, number)
+        && count == other.outcome_count(state, number)
+        && (0..count).all(|outcome| same_outcome(one, other, state, number, outcome))
 }
 
 // Whether an outcome leads to the same state by the same weight.

@@ -1,9 +1,10 @@
-use Rattle.std.proofs.Common.{refl, arith}
-use Rattle.plant.proofs.Compared.{same_belt}
+use Rattle.std.proofs.Common.{◌≡◌, arith, rules}
+use Rattle.plant.proofs.Compared.{decides_all, same_belt}
 use Rattle.plant.proofs.compare.same_belt.Goals as goal
 
-pub returns : goal.returns
-returns g c =
-    let p = c.args.one.now in
-    let q = c.args.other.now in
-    (λ _. same_belt (g.P.Plant.meaning p) (g.Q.Plant.meaning q) (g.P.Plant.lawful p) (g.Q.Plant.lawful q) (omega arith) (omega arith) (λ s h. c.loop-state.invariant s (omega arith)), λ _. refl)
+pub returns-then-start : goal.returns-then-start
+returns-then-start g c =
+    let a = g.P.Plant.meaning c.args.one.now in
+    let b = g.Q.Plant.meaning c.args.other.now in
+    let each = decides_all (λ s. (a.goal s ≡ b.goal s) × (a.moves s ≡ b.moves s)) c.states-count.result _ _ _ c.all.ensures.ran (λ x q k. search rules) (λ x q k. search rules) in
+    (λ e. same_belt a b (g.P.Plant.lawful _) (g.Q.Plant.lawful _) (search rules) (search rules) (λ s h. each.0 e s (omega (arith, h))), λ e. each.1 (λ s _. (cc, cc)))
