@@ -1,6 +1,7 @@
 -- A bar that is taken closes one lane.
 use Rattle.std.proofs.Common.{◌≡◌, ℕ, zero, suc, ◌+◌, ◌<◌, ◌≤◌, Bool, true, false, cond, not, ◌&&◌, ◌||◌, eqb, ltb, List, [], ◌∷◌, ◌++◌, length, sym, refl, ap, ◌∙◌, subst, inl, inr, arith}
 use Rattle.std.proofs.lemmas.Bool.{cases_Bool, cond-true, cond-false, eq-eqb, ne_eqb, ltb-true, and_parts, not-true, or_right}
+use Rattle.std.proofs.lemmas.Bool.Decides.{nat_tests}
 use Rattle.refusal.specs.Told.{answered}
 use Rattle.plant.specs.declared.bars.Bar.{Bar}
 use Rattle.plant.specs.Belts.{Belt, Move, move_count}
@@ -10,26 +11,13 @@ use Rattle.std.proofs.lemmas.List.Recursion.{or_push}
 use Rattle.plant.proofs.OpenMoves.{left_open}
 
 -- what was answered was open, and one of several
-pub record Taken (xs : List Bar) (b : Belt) (s k : ℕ) : Type 0 where
+record Taken (xs : List Bar) (b : Belt) (s k : ℕ) : Type 0 where
   pub inside : k < move_count b s
   pub unbarred : barred xs s k ≡ false
   pub several : length (open_moves xs b s) ≡ 1 → ⊥
 
-pub taken : (xs : List Bar) (b : Belt) (s k : ℕ) → answered tt ≡ bar_told xs b s k → Taken xs b s k
-taken xs b s k told =
-    elim (cases_Bool (open_pair xs b s k)) [
-      | inl open' ↦ (
-          let parts = and_parts (ltb k (move_count b s)) (not (barred xs s k)) open' in
-          record {
-            inside = ltb-true k (move_count b s) parts.0;
-            unbarred = not-true (barred xs s k) parts.1;
-            several = λ one.
-                let last = told ∙ cond-true (open_pair xs b s k) _ _ open' ∙ cond-true (eqb (length (open_moves xs b s)) 1) _ _ (eq-eqb (length (open_moves xs b s)) 1 one) in
-                let q : ◌≡◌ {A = ℕ} 0 1 = cc in
-                omega arith;
-          })
-      | inr shut ↦ absurd (let unknown = told ∙ cond-false (open_pair xs b s k) _ _ shut in let q : ◌≡◌ {A = ℕ} 0 1 = cc in let w : ⊥ = omega arith in w)
-    ]
+taken : (xs : List Bar) (b : Belt) (s k : ℕ) → answered tt ≡ bar_told xs b s k → Taken xs b s k
+taken xs b s k told = record { inside = grind (arith, nat_tests); unbarred = grind (arith, nat_tests); several = λ one. grind (arith, nat_tests) }
 
 open_same : (a b : ℕ → Bool) (i : ℕ) (vs : List Move) → ((n : ℕ) → i ≤ n → a n ≡ b n) → open_from a i vs ≡ open_from b i vs
 open_same a b i [] h = refl
@@ -63,7 +51,10 @@ without_length j [] h = absurd (omega arith)
 without_length zero (v ∷ vs) h = refl
 without_length (suc j) (v ∷ vs) h = ap suc (without_length j vs (omega arith))
 
-module _ (xs : List Bar) (b : Belt) (s k : ℕ) (ok : Taken xs b s k) where
+module _ (xs : List Bar) (b : Belt) (s k : ℕ) (told : answered tt ≡ bar_told xs b s k) where
+  ok : Taken xs b s k
+  ok = taken xs b s k told
+
   abbrev new : List Bar
   new = xs ++ (record { state = s; number = k } ∷ [])
 

@@ -76,6 +76,7 @@ impl<P: Plant> Barring<P> {
     }
 
     // How many moves of a state are not barred.
+    #[tactic(auto, using(crate::proofs::OpenMoves::open_length))]
     fn open_count(&self, state: u16) -> u8
         ensures { result ≡ length (open_moves self.now.bars.items (P.meaning self.now.plant) state) }
     {
@@ -83,6 +84,7 @@ impl<P: Plant> Barring<P> {
     }
 
     // The number that a move has below: the open move with so many open ones before it, or itself where none is open.
+    #[tactic(auto, using(crate::proofs::OpenMoves::found_all, crate::proofs::OpenMoves::found_open))]
     fn below(&self, state: u16, number: u8) -> Option<u8>
         ensures { move_at (belt_left P.meaning self.now) state number ≡ move_found (P.meaning self.now.plant) state result }
     {

@@ -6,8 +6,9 @@ ghost use Rattle.plant.specs.Belts.{move_at, outcome_at};
 use crate::plant::Plant;
 
 /// Whether two plants stand for the same belt, by reading both through.
+#[tactic(auto, using(crate::proofs::Compared::alike_same))]
 pub fn alike<P: Plant, Q: Plant>(one: &P, other: &Q) -> bool
-    ensures answer { Decides result (P.Plant.meaning one.now ≡ Q.Plant.meaning other.now) }
+    ensures answer { Decides result (P.meaning one.now ≡ Q.meaning other.now) }
     ensures law { AlikeSame }
 {
     same_belt(one, other)
@@ -15,7 +16,7 @@ pub fn alike<P: Plant, Q: Plant>(one: &P, other: &Q) -> bool
 
 // Whether two plants have as many states, the same start, and the same states.
 fn same_belt<P: Plant, Q: Plant>(one: &P, other: &Q) -> bool
-    ensures { Decides result (P.Plant.meaning one.now ≡ Q.Plant.meaning other.now) }
+    ensures { Decides result (P.meaning one.now ≡ Q.meaning other.now) }
 {
     let count = one.states();
     count == other.states()
@@ -25,7 +26,7 @@ fn same_belt<P: Plant, Q: Plant>(one: &P, other: &Q) -> bool
 
 // Whether a state is a goal in both or in none, and has the same moves.
 fn same_state<P: Plant, Q: Plant>(one: &P, other: &Q, state: u16) -> bool
-    ensures { Decides result (((P.Plant.meaning one.now).goal state ≡ (Q.Plant.meaning other.now).goal state) × ((P.Plant.meaning one.now).moves state ≡ (Q.Plant.meaning other.now).moves state)) }
+    ensures { Decides result (((P.meaning one.now).goal state ≡ (Q.meaning other.now).goal state) × ((P.meaning one.now).moves state ≡ (Q.meaning other.now).moves state)) }
 {
     let count = one.move_count(state);
     one.is_goal(state) == other.is_goal(state)
@@ -35,7 +36,7 @@ fn same_state<P: Plant, Q: Plant>(one: &P, other: &Q, state: u16) -> bool
 
 // Whether a move costs the same and has the same outcomes.
 fn same_move<P: Plant, Q: Plant>(one: &P, other: &Q, state: u16, number: u8) -> bool
-    ensures { Decides result (move_at (P.Plant.meaning one.now) state number ≡ move_at (Q.Plant.meaning other.now) state number) }
+    ensures { Decides result (move_at (P.meaning one.now) state number ≡ move_at (Q.meaning other.now) state number) }
 {
     let count = one.outcome_count(state, number);
     one.cost(state, number) == other.cost(state, number)
@@ -45,7 +46,7 @@ fn same_move<P: Plant, Q: Plant>(one: &P, other: &Q, state: u16, number: u8) -> 
 
 // Whether an outcome leads to the same state by the same weight.
 fn same_outcome<P: Plant, Q: Plant>(one: &P, other: &Q, state: u16, number: u8, outcome: u8) -> bool
-    ensures { Decides result (outcome_at (P.Plant.meaning one.now) state number outcome ≡ outcome_at (Q.Plant.meaning other.now) state number outcome) }
+    ensures { Decides result (outcome_at (P.meaning one.now) state number outcome ≡ outcome_at (Q.meaning other.now) state number outcome) }
 {
     one.outcome_state(state, number, outcome) == other.outcome_state(state, number, outcome)
         && one.outcome_weight(state, number, outcome)

@@ -40,15 +40,17 @@ impl<P: Plant> Surcharge<P> {
     }
 
     // How many moves a state has: as many as below.
+    #[tactic(auto, using(crate::specs::SurchargesLawful::moves_kept))]
     fn moves(&self, state: u16) -> u8
-        ensures { result ≡ move_count (surcharged self.now.extra (P.Plant.meaning self.now.plant)) state }
+        ensures { result ≡ move_count (surcharged self.now.extra (P.meaning self.now.plant)) state }
     {
         self.plant.move_count(state)
     }
 
     // The number that a move has below: the same.
+    #[tactic(auto, using(crate::proofs::SurchargesRead::raised_below))]
     fn below(&self, state: u16, number: u8) -> u8
-        ensures { Raised self.now.extra (P.Plant.meaning self.now.plant) state number result }
+        ensures { Raised self.now.extra (P.meaning self.now.plant) state number result }
     {
         number
     }
@@ -66,9 +68,9 @@ impl<P: Plant> Surcharge<P> {
 
 /// A surcharge reads as the plant below, each cost raised.
 impl<P: Plant> Plant for Surcharge<P> {
-    ghost meaning = { λ p. surcharged p.extra (P.Plant.meaning p.plant) };
+    ghost meaning = { λ p. surcharged p.extra (P.meaning p.plant) };
 
-    ghost lawful = { λ p. surcharged_lawful p.extra (P.Plant.meaning p.plant) (P.Plant.lawful p.plant) };
+    ghost lawful = { λ p. surcharged_lawful p.extra (P.meaning p.plant) (P.lawful p.plant) };
 
     fn states(&self) -> u16 {
         self.plant.states()

@@ -53,6 +53,7 @@ impl TankLine {
     }
 
     /// The state with so many pieces stuck and the tank at this level, where the line has one.
+    #[tactic(auto, using(crate::proofs::TankFound::laid_out))]
     pub fn state_at(&self, pieces: u16, level: u16) -> Option<u16>
         ensures answer { result ≡ state_at self.now.pieces self.now.levels pieces level }
         ensures means { IfSome result (λ s. LaidOut self.now pieces level s) }

@@ -62,6 +62,7 @@ impl Plant for TankLine {
         self.pieces_at(state) == 0
     }
 
+    #[tactic(auto, using(crate::specs::TankLawful::count_stuck))]
     fn move_count(&self, state: u16) -> u8 {
         let pieces = self.pieces_at(state);
         if pieces < 1 || pieces > self.pieces {
