@@ -10,15 +10,6 @@ use Rattle.std.proofs.Math.Bool.{or-false}
 use Rattle.std.proofs.lemmas.List.Recursion.{or_push}
 use Rattle.plant.proofs.OpenMoves.{left_open}
 
--- what was answered was open, and one of several
-record Taken (xs : List Bar) (b : Belt) (s k : ℕ) : Type 0 where
-  pub inside : k < move_count b s
-  pub unbarred : barred xs s k ≡ false
-  pub several : length (open_moves xs b s) ≡ 1 → ⊥
-
-taken : (xs : List Bar) (b : Belt) (s k : ℕ) → answered tt ≡ bar_told xs b s k → Taken xs b s k
-taken xs b s k told = record { inside = grind (arith, nat_tests); unbarred = grind (arith, nat_tests); several = λ one. grind (arith, nat_tests) }
-
 open_same : (a b : ℕ → Bool) (i : ℕ) (vs : List Move) → ((n : ℕ) → i ≤ n → a n ≡ b n) → open_from a i vs ≡ open_from b i vs
 open_same a b i [] h = refl
 open_same a b i (v ∷ vs) h = rw (h i (omega arith), open_same a b (i + 1) vs (λ n l. h n (omega arith))) refl
@@ -52,8 +43,15 @@ without_length zero (v ∷ vs) h = refl
 without_length (suc j) (v ∷ vs) h = ap suc (without_length j vs (omega arith))
 
 module _ (xs : List Bar) (b : Belt) (s k : ℕ) (told : answered tt ≡ bar_told xs b s k) where
-  ok : Taken xs b s k
-  ok = taken xs b s k told
+  -- what was answered was open, and one of several
+  inside : k < move_count b s
+  inside = grind (arith, nat_tests)
+
+  unbarred : barred xs s k ≡ false
+  unbarred = grind (arith, nat_tests)
+
+  several : length (open_moves xs b s) ≡ 1 → ⊥
+  several one = grind (arith, nat_tests)
 
   abbrev new : List Bar
   new = xs ++ (record { state = s; number = k } ∷ [])
@@ -67,9 +65,9 @@ module _ (xs : List Bar) (b : Belt) (s k : ℕ) (told : answered tt ≡ bar_told
   less : (open_moves new b s ≡ without (moved_up xs s k) (open_moves xs b s)) × (moved_up xs s k < length (open_moves xs b s))
   less = one_less (barred new s) (barred xs s) k
       (barred_push s k ∙ or_right (barred xs s k) (eqb s s && eqb k k) (rw (eq-eqb s s refl, eq-eqb k k refl) refl))
-      ok.unbarred
+      unbarred
       (λ n d. same_number s n (rw (eq-eqb s s refl, ne_eqb k n (λ e. d (sym e))) refl))
-      k 0 (b.moves s) (omega arith) ok.inside
+      k 0 (b.moves s) (omega arith) inside
 
   was : (barring xs b).moves s ≡ open_moves xs b s
   was = left_open (open_moves xs b s) (b.moves s) (let l = less.1 in omega arith)
@@ -77,7 +75,7 @@ module _ (xs : List Bar) (b : Belt) (s k : ℕ) (told : answered tt ≡ bar_told
   lane_closed : LaneClosed (barring xs b) (barring new b) s (moved_up xs s k)
   lane_closed =
       let l = less.1 in
-      let some = ok.several in
+      let some = several in
       let short = without_length (moved_up xs s k) (open_moves xs b s) l in
       let open' = ap length was in
       record {

@@ -1,6 +1,7 @@
 -- What the code finds at a number of a tank line, and what stands in a state by its pieces and its level.
 use Rattle.std.proofs.Common.{◌≡◌, ℕ, ◌+◌, ◌/◌, ◌%◌, ◌<◌, ◌≤◌, eqb, length, get_or, Some, sym, ap, ◌∙◌, inl, inr, mod-eq_of_lt, arith}
 use native.Mathlib.Nat.{mul-add-div_right, mul-add-mod_self_right, div-eq_of_lt}
+use Rattle.std.proofs.lemmas.Grind.{rows}
 use Rattle.std.proofs.lemmas.Bool.{cond-true, cond-false, cases_eq, eq-eqb, ne_eqb}
 use Rattle.plant.specs.declared.tank.kinds.TankMove.TheVariants.{Jets}
 use Rattle.plant.specs.declared.tank.kinds.TankOutcome.TheVariants.{Freed}
@@ -32,13 +33,10 @@ module _ (t : TankLine) (s m : ℕ) where
 
 -- the pieces and the level of a state, back from its number
 pieces_back : (P f p : ℕ) → p ≤ P → state_of P f p / (P + 1) ≡ f
-pieces_back P f p h =
-    let some : 0 < P + 1 = omega arith in
-    let none : p / (P + 1) ≡ 0 = div-eq_of_lt (omega arith) in
-    omega (arith, mul-add-div_right some f p)
+pieces_back P f p h = grind (arith, rows)
 
 level_back : (P f p : ℕ) → p ≤ P → state_of P f p % (P + 1) ≡ p
-level_back P f p h = mul-add-mod_self_right f (P + 1) p ∙ mod-eq_of_lt (omega arith)
+level_back P f p h = grind (arith, rows)
 
 pub laid_out : (t : TankLine) (f p : ℕ) → f ≤ t.pieces → p ≤ t.levels → LaidOut t f p (state_of t.levels f p)
 laid_out t f p most h =

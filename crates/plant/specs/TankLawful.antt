@@ -1,8 +1,10 @@
 -- A tank line keeps the bounds of a belt; proofs only.
 use Rattle.std.specs.Prelude.{◌≡◌, ℕ, zero, suc, ◌+◌, ◌-◌, ◌*◌, ◌/◌, ◌%◌, ◌<◌, ◌≤◌, min, Bool, true, false, ◌&&◌, leb, List, [], ◌∷◌, map, length, get_or, nat_le, slice_index_or, refl}
 use Rattle.std.proofs.Common.{inl, inr, sym, ap, subst, ◌∙◌, add-mul, mul-le-mul, mul-le-mul_right, mod-lt, le-div_iff_mul-le, div-lt_iff_lt-mul, arith}
-use Rattle.std.specs.List.{range_with_len}
-use Rattle.std.proofs.lemmas.List.FromFn.{length-map-range_with_len, get_or-map-range_with_len}
+use Rattle.std.specs.List.{list_all, range_with_len}
+use Rattle.std.proofs.lemmas.List.FromFn.{length-range_with_len, get_or-range_with_len, length-map-range_with_len, get_or-map-range_with_len}
+use Rattle.std.proofs.lemmas.List.Folds.{list_all_at}
+use Rattle.std.proofs.lemmas.Bool.Decides.{nat_tests}
 use Rattle.std.proofs.lemmas.Bool.{cond-true, cond-false, cases_Bool, cases_eq, eqb-true, eqb-false, ne_eqb, leb-true, le-leb, lt-leb, and_parts, and_from, and_left, and_right}
 use Rattle.plant.specs.Belts.{Move, no_move, no_outcome, move_at, move_count}
 use Rattle.plant.specs.Laws.{LawfulBelt, LawfulMove, LawfulOutcome}
@@ -15,21 +17,15 @@ choose_some zero (suc m) h = absurd (let z : ⊥ = omega arith in z)
 choose_some (suc j) zero h = omega arith
 choose_some (suc j) (suc m) h = omega (arith, choose_some j m (omega arith))
 
-abbrev every : (ℕ → Bool) → ℕ → Bool
-every p zero = true
-every p (suc n) = p n && every p n
-
-every_at : (p : ℕ → Bool) (n : ℕ) → every p n ≡ true → (k : ℕ) → k < n → p k ≡ true
-every_at p zero e k h = absurd (let z : ⊥ = omega arith in z)
-every_at p (suc n) e k h =
-    elim (cases_eq k n) [
-      | inl d ↦ ap p d ∙ (and_parts (p n) (every p n) e).0
-      | inr d ↦ every_at p n (and_parts (p n) (every p n) e).1 k (omega arith)
-    ]
+every_at : (p : ℕ → Bool) (n : ℕ) → list_all p (range_with_len 0 n) ≡ true → (k : ℕ) → k < n → p k ≡ true
+every_at p n e k h =
+    let at = get_or-range_with_len 0 n k 0 h in
+    let long = length-range_with_len 0 n in
+    grind (arith, nat_tests, list_all_at p (range_with_len 0 n) k 0)
 
 choose_small : (j m : ℕ) → j ≤ 8 → m ≤ 8 → choose j m ≤ 255
 choose_small j m h k =
-    let row = every_at (λ i. every (λ o. leb (choose i o) 255) 9) 9 refl j (omega arith) in
+    let row = every_at (λ i. list_all (λ o. leb (choose i o) 255) (range_with_len 0 9)) 9 refl j (omega arith) in
     leb-true (choose j m) 255 (every_at (λ o. leb (choose j o) 255) 9 row m (omega arith))
 
 -- a state's number, its pieces and its level
@@ -37,7 +33,7 @@ inside : (F P f p : ℕ) → f ≤ F → p ≤ P → state_of P f p < (F + 1) * 
 inside F P f p h k = omega (arith, mul-le-mul_right (P + 1) h, add-mul F 1 (P + 1))
 
 level_below : (P s : ℕ) → s % (P + 1) ≤ P
-level_below P s = let p : 0 < P + 1 = omega arith in omega (arith, mod-lt s p)
+level_below P s = let p : 0 < P + 1 = omega arith in omega arith
 
 pieces_inside : (F P s : ℕ) → s < (F + 1) * (P + 1) → s / (P + 1) ≤ F
 pieces_inside F P s h = let p : 0 < P + 1 = omega arith in omega (arith, (div-lt_iff_lt-mul p).1 h)
@@ -46,16 +42,16 @@ pieces_outside : (F P s : ℕ) → (F + 1) * (P + 1) ≤ s → F < s / (P + 1)
 pieces_outside F P s h = let p : 0 < P + 1 = omega arith in omega (arith, (le-div_iff_mul-le p).1 h)
 
 pub stuck_true : (F f : ℕ) → 1 ≤ f → f ≤ F → stuck F f ≡ true
-stuck_true F f h k = and_from (nat_le 1 f) (nat_le f F) (le-leb 1 f h) (le-leb f F k)
+stuck_true F f h k = grind (arith, nat_tests)
 
 stuck_parts : (F f : ℕ) → stuck F f ≡ true → (1 ≤ f) × (f ≤ F)
-stuck_parts F f h = let p = and_parts (nat_le 1 f) _ h in (leb-true _ _ p.0, leb-true _ _ p.1)
+stuck_parts F f h = (grind (arith, nat_tests), grind (arith, nat_tests))
 
 pub stuck_none : (F f : ℕ) → f ≡ 0 → stuck F f ≡ false
-stuck_none F f h = and_left (nat_le 1 f) (nat_le f F) (lt-leb 1 f (omega arith))
+stuck_none F f h = grind (arith, nat_tests)
 
 stuck_past : (F f : ℕ) → F < f → stuck F f ≡ false
-stuck_past F f h = and_right (nat_le 1 f) (nat_le f F) (lt-leb f F h)
+stuck_past F f h = grind (arith, nat_tests)
 
 -- the jets stand behind the rest
 behind : (x : Move) (g : ℕ → Move) (n j : ℕ) → 1 ≤ j → j ≤ n → slice_index_or (x ∷ map g (range_with_len 1 n)) j no_move ≡ g j
