@@ -40,7 +40,7 @@ module _ (a b : ℕ → Bool) (at : ℕ) (here : a at ≡ true) (was : b at ≡ 
 without_length : (j : ℕ) (vs : List Move) → j < length vs → suc (length (without j vs)) ≡ length vs
 without_length j [] h = absurd (omega arith)
 without_length zero (v ∷ vs) h = refl
-without_length (suc j) (v ∷ vs) h = ap suc (without_length j vs (omega arith))
+without_length (suc j) (v ∷ vs) h = omega (arith, without_length j vs (omega arith))
 
 module _ (xs : List Bar) (b : Belt) (s k : ℕ) (told : answered tt ≡ bar_told xs b s k) where
   -- what was answered was open, and one of several

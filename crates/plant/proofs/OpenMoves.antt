@@ -1,6 +1,7 @@
 -- The moves of a state that are not barred, by their numbers.
 use Rattle.std.proofs.Common.{◌≡◌, ℕ, zero, suc, ◌+◌, ◌<◌, ◌≤◌, Bool, true, false, cond, not, List, [], ◌∷◌, length, get_or, map, filter, slice_get, sym, refl, ap, ◌∙◌, arith}
 use Rattle.std.specs.List.{range_with_len}
+use Rattle.std.proofs.lemmas.Bool.Decides.{nat_tests}
 use Rattle.std.proofs.lemmas.List.{length-map}
 use Rattle.plant.specs.declared.bars.Bar.{Bar}
 use Rattle.plant.specs.Belts.{Belt, Move, no_move, move_count, move_at}
@@ -32,11 +33,8 @@ module _ (flags : List Bool) (shut : ℕ → Bool) (same : (k : ℕ) → k < 16 
   open_by f i (v ∷ vs) few at =
       let here : v ≡ f i = at 0 ∙ ap f (omega arith) in
       let more = open_by f (i + 1) vs (omega arith) (λ j. at (suc j) ∙ ap f (omega arith)) in
-      rw (sym (same i (omega arith))) (go (get_or flags i false) here more)
-    where
-      go : (t : Bool) → v ≡ f i → open_from shut (i + 1) vs ≡ map f (unset_from (i + 1) (length vs)) → cond t (open_from shut (i + 1) vs) (v ∷ open_from shut (i + 1) vs) ≡ map f (cond (not t) (i ∷ unset_from (i + 1) (length vs)) (unset_from (i + 1) (length vs)))
-      go true here more = more
-      go false here more = rw (here, more) refl
+      let flag = same i (omega arith) in
+      grind (arith, nat_tests)
 
 -- a state's open moves by the flags that the code reads, and by so many numbers as the code asks for
 module _ (flags : List Bool) (held : List Bar) (n : ℕ) (xs : List Bar) (b : Belt) (s : ℕ) (laws : LawfulBelt b) (is : held ≡ xs) (same : (k : ℕ) → k < 16 → get_or flags k false ≡ barred held s k) (count : n ≡ move_count b s) where

@@ -3,6 +3,7 @@ use Rattle.std.specs.Prelude.{◌≡◌, ℕ, suc, ◌+◌, ◌≤◌, Bool, tru
 use Rattle.std.proofs.Common.{ap, arith}
 use Rattle.std.proofs.ByRecursion.{All-get_or, All-from_get_or}
 use Rattle.std.specs.List.{AllByRecursion}
+use Rattle.std.proofs.lemmas.Bool.Decides.{nat_tests}
 use Rattle.plant.specs.declared.bars.Bar.{Bar}
 use Rattle.plant.specs.Belts.{Belt, Move, no_move, move_count}
 use Rattle.plant.specs.Laws.{LawfulBelt, LawfulMove}
@@ -10,11 +11,7 @@ use Rattle.plant.specs.Bars.{barred, open_from, open_moves, left_of, barring}
 
 open_few : (shut : ℕ → Bool) (k : ℕ) (vs : List Move) → length (open_from shut k vs) ≤ length vs
 open_few shut k [] = omega arith
-open_few shut k (v ∷ vs) = let more = open_few shut (k + 1) vs in go (shut k) more
-  where
-    go : (t : Bool) → length (open_from shut (k + 1) vs) ≤ length vs → length (cond t (open_from shut (k + 1) vs) (v ∷ open_from shut (k + 1) vs)) ≤ suc (length vs)
-    go true h = omega arith
-    go false h = omega arith
+open_few shut k (v ∷ vs) = let more = open_few shut (k + 1) vs in grind (arith, nat_tests)
 
 open_all : (P : Move → Type 0) (shut : ℕ → Bool) (k : ℕ) (vs : List Move) → AllByRecursion P vs → AllByRecursion P (open_from shut k vs)
 open_all P shut k [] a = tt
