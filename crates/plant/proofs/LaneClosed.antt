@@ -1,13 +1,13 @@
 -- A bar that is taken closes one lane.
-use Rattle.std.proofs.Common.{◌≡◌, ℕ, zero, suc, ◌+◌, ◌<◌, ◌≤◌, Bool, true, false, cond, not, ◌&&◌, ◌||◌, eqb, ltb, List, [], ◌∷◌, ◌++◌, length, sym, refl, ap, ◌∙◌, subst, inl, inr, arith}
-use Rattle.std.proofs.lemmas.Bool.{cases_Bool, cond-true, cond-false, eq-eqb, ne_eqb, ltb-true, and_parts, not-true, or_right}
+use Rattle.std.proofs.Common.{◌≡◌, ℕ, zero, suc, ◌+◌, ◌<◌, ◌≤◌, Bool, true, false, ◌&&◌, ◌||◌, eqb, List, [], ◌∷◌, ◌++◌, length, sym, refl, ap, ◌∙◌, subst, arith}
+use Rattle.std.proofs.Math.Bool.{or-false}
+use Rattle.std.proofs.lemmas.List.Recursion.{or_push}
+use Rattle.std.proofs.lemmas.Bool.{eq-eqb, ne_eqb, or_right}
 use Rattle.std.proofs.lemmas.Bool.Decides.{nat_tests}
 use Rattle.refusal.specs.Told.{answered}
 use Rattle.plant.specs.declared.bars.Bar.{Bar}
 use Rattle.plant.specs.Belts.{Belt, Move, move_count}
-use Rattle.plant.specs.Bars.{bars_it, barred, open_from, open_moves, left_of, barring, open_pair, bar_told, open_before, moved_up, without, LaneClosed}
-use Rattle.std.proofs.Math.Bool.{or-false}
-use Rattle.std.proofs.lemmas.List.Recursion.{or_push}
+use Rattle.plant.specs.Bars.{bars_it, barred, open_from, open_moves, left_of, barring, bar_told, open_before, moved_up, without, LaneClosed}
 use Rattle.plant.proofs.OpenMoves.{left_open}
 
 open_same : (a b : ℕ → Bool) (i : ℕ) (vs : List Move) → ((n : ℕ) → i ≤ n → a n ≡ b n) → open_from a i vs ≡ open_from b i vs
@@ -26,16 +26,9 @@ module _ (a b : ℕ → Bool) (at : ℕ) (here : a at ≡ true) (was : b at ≡ 
   one_less (suc k) i (v ∷ vs) e h =
       let x : a i ≡ b i = there i (λ w. omega arith) in
       let less = one_less k (i + 1) vs (omega arith) (omega arith) in
-      rw x (go less (b i))
-    where
-      go : (open_from a (i + 1) vs ≡ without (open_before b (i + 1) k) (open_from b (i + 1) vs)) × (open_before b (i + 1) k < length (open_from b (i + 1) vs)) → (c : Bool)
-          → (cond c (open_from a (i + 1) vs) (v ∷ open_from a (i + 1) vs) ≡ without (cond c 0 1 + open_before b (i + 1) k) (cond c (open_from b (i + 1) vs) (v ∷ open_from b (i + 1) vs)))
-          × (cond c 0 1 + open_before b (i + 1) k < length (cond c (open_from b (i + 1) vs) (v ∷ open_from b (i + 1) vs)))
-      go less true = let q : 0 + open_before b (i + 1) k ≡ open_before b (i + 1) k = omega arith in rw q less
-      go less false =
-          let q : 1 + open_before b (i + 1) k ≡ suc (open_before b (i + 1) k) = omega arith in
-          let l = less.1 in
-          rw q (ap (λ (xs : List Move). v ∷ xs) less.0, omega arith)
+      let same = less.0 in
+      let inside' = less.1 in
+      (grind (arith, nat_tests), grind (arith, nat_tests))
 
 without_length : (j : ℕ) (vs : List Move) → j < length vs → suc (length (without j vs)) ≡ length vs
 without_length j [] h = absurd (omega arith)

@@ -1,9 +1,10 @@
 -- A belt keeps the bounds whatever is barred; proofs only.
-use Rattle.std.specs.Prelude.{◌≡◌, ℕ, suc, ◌+◌, ◌≤◌, Bool, true, false, cond, List, [], ◌∷◌, length}
-use Rattle.std.proofs.Common.{ap, arith}
+use Rattle.std.specs.Prelude.{◌≡◌, ℕ, ◌+◌, ◌≤◌, Bool, List, [], ◌∷◌, length}
+use Rattle.std.proofs.Common.{inl, inr, ap, arith}
 use Rattle.std.proofs.ByRecursion.{All-get_or, All-from_get_or}
 use Rattle.std.specs.List.{AllByRecursion}
 use Rattle.std.proofs.lemmas.Bool.Decides.{nat_tests}
+use Rattle.std.proofs.lemmas.Bool.{cases_Bool}
 use Rattle.plant.specs.declared.bars.Bar.{Bar}
 use Rattle.plant.specs.Belts.{Belt, Move, no_move, move_count}
 use Rattle.plant.specs.Laws.{LawfulBelt, LawfulMove}
@@ -15,11 +16,9 @@ open_few shut k (v ∷ vs) = let more = open_few shut (k + 1) vs in grind (arith
 
 open_all : (P : Move → Type 0) (shut : ℕ → Bool) (k : ℕ) (vs : List Move) → AllByRecursion P vs → AllByRecursion P (open_from shut k vs)
 open_all P shut k [] a = tt
-open_all P shut k (v ∷ vs) a = go (shut k) (open_all P shut (k + 1) vs a.1)
-  where
-    go : (t : Bool) → AllByRecursion P (open_from shut (k + 1) vs) → AllByRecursion P (cond t (open_from shut (k + 1) vs) (v ∷ open_from shut (k + 1) vs))
-    go true h = h
-    go false h = (a.0, h)
+open_all P shut k (v ∷ vs) a =
+    let more = open_all P shut (k + 1) vs a.1 in
+    elim (cases_Bool (shut k)) [ inl h ↦ rw h more | inr h ↦ rw h (a.0, more) ]
 
 left_some : (xs all : List Move) → 1 ≤ length all → 1 ≤ length (left_of xs all)
 left_some [] all h = h

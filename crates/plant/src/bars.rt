@@ -8,7 +8,7 @@ use crate::plant::MOST_MOVES;
 /// The most bars that a barring holds.
 pub const MOST_BARS: usize = 16;
 
-// One flag for each number that a move can have.
+// One flag for each number that a move can have, so that a reading passes over the bars once.
 const NUMBERS: usize = 16;
 
 /// A barred move: its state, and its number in the plant below.

@@ -10,8 +10,8 @@ use crate::fault::PlantFault;
 pub(crate) fn ranged(index: usize, low: u16, high: u16, value: u64) -> Result<u16, PlantFault>
     ensures { told plant_refusal result ≡ ranged index low high value }
 {
-    if value < u64::from(low) || value > u64::from(high) {
-        return Err(PlantFault::Argument(index));
+    match u16::try_from(value) {
+        Ok(taken) if (low..=high).contains(&taken) => Ok(taken),
+        _ => Err(PlantFault::Argument(index)),
     }
-    Ok(value as u16)
 }
