@@ -5,7 +5,8 @@ ghost use Rattle.plan.specs.Tables.{Becomes, held, room_of, with_move, with_outc
 use crate::counts::Counts;
 use crate::records::{MoveRecord, OutcomeRecord, StateRecord};
 
-/// Three tables, lent for writing. A record whose place lies past the end of its table is not written.
+/// Three tables, lent for writing. A record whose place lies past the end of its table is not written. (Each table is the
+/// caller's memory, so a walk over them says in its contract that they stay the same three.)
 #[derive(Drop)]
 pub struct Tables<'a> {
     /// The table of states.

@@ -39,7 +39,7 @@ impl Fault for PlantFault {
     }
 }
 
-/// A fault prints the line of its refusal.
+/// A fault prints the line of its refusal. (Written out: what a derive prints no contract says.)
 impl fmt::Display for PlantFault {
     ghost output = { λ fault. Some (refusal_line (plant_refusal fault)) };
 

@@ -66,7 +66,8 @@ impl<P: Plant> Surcharge<P> {
     }
 }
 
-/// A surcharge reads as the plant below, each cost raised.
+/// A surcharge reads as the plant below, each cost raised. (It hands on the other readings itself, as a barring does: one
+/// implementation for both would need a third trait with the same readings and laws.)
 impl<P: Plant> Plant for Surcharge<P> {
     ghost meaning = { λ p. surcharged p.extra (P.meaning p.plant) };
 
