@@ -23,16 +23,18 @@ pub fn number_at(text: &[u8], at: usize) -> Result<Parsed<u64>, TextFault>
     Ok(read)
 }
 
-/// The number at a place, if it lies from `low` to `high`.
+/// The number at a place, if it lies from `low` to `high`. (Two numbers and no range of the library: one that was walked
+/// through has no last number any more, and a contract would have to rule it out.)
 pub fn ranged_at(text: &[u8], at: usize, low: u64, high: u64) -> Result<Parsed<u64>, TextFault>
     ensures answer { told text_refusal result ≡ ranged_at low high text.now at }
     ensures within { IfOk result (λ n. (low ≤ n.value) × (n.value ≤ high)) }
 {
     let read = number_at(text, at)?;
-    if read.value < low || read.value > high {
-        return Err(TextFault::Number(at));
+    if (low..=high).contains(&read.value) {
+        Ok(read)
+    } else {
+        Err(TextFault::Number(at))
     }
-    Ok(read)
 }
 
 // The digits from a place on, and what they write.
