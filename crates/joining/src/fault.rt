@@ -16,7 +16,7 @@ pub enum JoiningFault {
     Pair(usize),
 }
 
-/// Both faults are refusal 1 of the layer joining; the place is 0 or the pair's.
+/// Both faults are refusal 1 of the layer joining; the place is 0 or the pair's. (No `From`: see the trait.)
 impl Fault for JoiningFault {
     ghost meaning = { joining_refusal };
 
@@ -25,15 +25,12 @@ impl Fault for JoiningFault {
             JoiningFault::Lengths => 0,
             JoiningFault::Pair(place) => *place,
         };
-        Refusal {
-            number: 1,
-            layer: Layer::Joining,
-            place,
-        }
+        Layer::Joining.refusal(1, place)
     }
 }
 
-/// A fault prints the line of its refusal. (Written out: what a derive prints no contract says.)
+/// A fault prints the line of its refusal. (Written out in each layer: what a derive
+/// prints no contract says, and one impl for all faults Rust refuses.)
 impl fmt::Display for JoiningFault {
     ghost output = { λ fault. Some (refusal_line (joining_refusal fault)) };
 

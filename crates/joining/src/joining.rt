@@ -8,7 +8,7 @@ ghost use Rattle.refusal.specs.Told.{told};
 use crate::fault::JoiningFault;
 
 /// A joining: one figure from the weights and the figures of a move's outcomes. (Two rows and not one of pairs: rows that
-/// are not equally long are a fault of their own, and the caller keeps figures without weights.)
+/// are not equally long are a fault of their own, and `rise` joins one row of weights with two of figures.)
 pub trait Joining {
     // the function of the two rows that the joining stands for
     ghost meaning: { Self → List ℕ → List ℕ → ℕ };

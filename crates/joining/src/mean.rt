@@ -24,6 +24,7 @@ impl Joining for Mean {
         for (weight, figure) in weights.iter().zip(figures) {
             sum += u64::from(*weight) * u64::from(*figure);
         }
+        // The cast loses nothing, as the check proves; a `try_from` would add a fault that cannot come.
         Ok((sum / all) as u32)
     }
 }

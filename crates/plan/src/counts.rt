@@ -14,7 +14,7 @@ pub struct Counts {
 }
 
 impl Counts {
-    // No record.
+    // No record: the default, by the name that the definitions have for it.
     pub(crate) fn none() -> Counts
         ensures { result ≡ unused }
     {

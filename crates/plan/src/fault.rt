@@ -20,33 +20,21 @@ pub enum PlanFault {
     Full(usize),
 }
 
-/// A fault of the text keeps its refusal; the others are refusals 4 and 5 of the layer plan.
+/// A fault of the text keeps its refusal; the others are refusals 4 and 5 of the layer plan. (No `From`: see the trait.)
 impl Fault for PlanFault {
     ghost meaning = { plan_refusal };
 
     fn refusal(&self) -> Refusal {
         match self {
             PlanFault::Text(fault) => fault.refusal(),
-            PlanFault::State(place) => plan_refusal(4, *place),
-            PlanFault::Full(place) => plan_refusal(5, *place),
+            PlanFault::State(place) => Layer::Plan.refusal(4, *place),
+            PlanFault::Full(place) => Layer::Plan.refusal(5, *place),
         }
     }
 }
 
-// A refusal of the layer plan.
-fn plan_refusal(number: u8, place: usize) -> Refusal
-    ensures number { result.number ≡ number }
-    ensures layer { result.layer ≡ Layer.Plan }
-    ensures place { result.place ≡ place }
-{
-    Refusal {
-        number,
-        layer: Layer::Plan,
-        place,
-    }
-}
-
-/// A fault prints the line of its refusal. (Written out: what a derive prints no contract says.)
+/// A fault prints the line of its refusal. (Written out in each layer: what a derive
+/// prints no contract says, and one impl for all faults Rust refuses.)
 impl fmt::Display for PlanFault {
     ghost output = { λ fault. Some (refusal_line (plan_refusal fault)) };
 

@@ -27,6 +27,7 @@ impl Source<'_> {
         let second = sign_at(self.text, state.next, Sign::Space)?;
         let weight = ranged_at(self.text, second, 1, GREATEST_WEIGHT)?;
         let next = sign_at(self.text, weight.next, Sign::Close)?;
+        // Casts that the check proves to lose nothing; a `try_from` would add a fault that cannot come.
         let value = OutcomeRecord {
             state: state.value as u16,
             weight: weight.value as u8,

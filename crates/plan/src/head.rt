@@ -23,6 +23,7 @@ pub(crate) fn head_at(text: &[u8]) -> Result<Parsed<PlanHead>, PlanFault>
     let second = sign_at(text, version.next, Sign::Space)?;
     let count = ranged_at(text, second, 1, u64::from(MOST_STATES))?;
     let third = sign_at(text, count.next, Sign::Space)?;
+    // Casts that the check proves to lose nothing; a `try_from` would add a fault that cannot come.
     let states = count.value as u16;
     let start = state_at(text, third, states)?;
     let close = sign_at(text, start.next, Sign::Close)?;

@@ -80,7 +80,8 @@ impl Source<'_> {
     }
 }
 
-// The number of the state that is due.
+// The number of the state that is due. (A function beside `state_at`: one over the test would state its answer through the
+// contract of a closure.)
 fn due_at(text: &[u8], at: usize, due: usize) -> Result<Parsed<u64>, PlanFault>
     ensures { told plan_refusal result ≡ due_at due text.now at }
 {

@@ -29,7 +29,8 @@ impl Tables<'_> {
         }
     }
 
-    // Writes a state at a place.
+    // Writes a state at a place. (A method for each table: a generic one would need a trait that tells a record's table,
+    // with as much code for each.)
     pub(crate) fn put_state(&mut self, place: usize, state: StateRecord)
         ensures { Becomes self.old self.new (with_state (held self.old) place state) }
     {
@@ -51,7 +52,7 @@ impl Tables<'_> {
     }
 }
 
-// A record of a table, which is written field by field.
+// A record of a table, which is written field by field, by a rule of the project: the code names each field that it writes.
 trait Record: Copy {
     // Takes over the fields of another record.
     fn write(&mut self, other: Self)
@@ -80,7 +81,8 @@ impl Record for OutcomeRecord {
     }
 }
 
-// Writes a record at a place of its table; past the table's end nothing is written.
+// Writes a record at a place of its table; past the table's end nothing is written. (By index: through `get_mut` the check
+// does not find that the other records stay.)
 fn put<R: Record>(table: &mut [R], place: usize, written: R)
     ensures { table.new ≡ slice_set table.old place written }
 {

@@ -19,7 +19,8 @@ pub struct Limits {
     pub room: Counts,
 }
 
-/// A plan text, and what its lines are held to.
+/// A plan text, and what its lines are held to. (The place that is reached, and the tables, are parameters beside it: a
+/// struct of all would be changed by each call, and each contract would have to say that its text and limits stay.)
 #[derive(Clone, Copy)]
 pub struct Source<'a> {
     /// The text.

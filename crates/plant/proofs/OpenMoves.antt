@@ -1,8 +1,8 @@
 -- The moves of a state that are not barred, by their numbers.
-use Rattle.std.proofs.Common.{◌≡◌, ℕ, zero, suc, ◌+◌, ◌<◌, ◌≤◌, Bool, false, not, List, [], ◌∷◌, length, get_or, map, filter, slice_get, sym, refl, ap, ◌∙◌, arith}
+use Rattle.std.proofs.Common.{◌≡◌, ℕ, zero, suc, ◌+◌, ◌<◌, ◌≤◌, Bool, false, not, List, [], ◌∷◌, length, get_or, map, filter, Some, slice_get, sym, refl, ap, ◌∙◌, arith}
 use Rattle.std.specs.List.{range_with_len}
 use Rattle.std.proofs.lemmas.Bool.Decides.{nat_tests}
-use Rattle.std.proofs.lemmas.List.{length-map}
+use Rattle.std.proofs.lemmas.List.{length-map, nil_from_length}
 use Rattle.plant.specs.declared.bars.Bar.{Bar}
 use Rattle.plant.specs.Belts.{Belt, Move, no_move, move_count, move_at}
 use Rattle.plant.specs.Laws.{LawfulBelt}
@@ -54,3 +54,7 @@ module _ (flags : List Bool) (held : List Bar) (n : ℕ) (xs : List Bar) (b : Be
   found_open m some =
       ap (λ (vs : List Move). get_or vs m no_move) (left_open (open_moves xs b s) (b.moves s) (omega (arith, open_length)) ∙ open_is)
       ∙ found_at b s (unset flags n) m
+
+  pub found_some : (m k : ℕ) → slice_get (unset flags n) m ≡ Some k → move_at (barring xs b) s m ≡ move_at b s k
+  found_some m k is =
+      found_open m (λ none. absurd (let e = nil_from_length (unset flags n) none in let z : ◌≡◌ {A = ℕ} 0 1 = cc in omega arith)) ∙ ap (move_found b s) is

@@ -6,9 +6,11 @@ use Rattle.std.proofs.lemmas.List.FromFn.{length-range_with_len, get_or-range_wi
 use Rattle.std.proofs.lemmas.List.Folds.{list_all_at}
 use Rattle.std.proofs.lemmas.Bool.Decides.{nat_tests}
 use Rattle.std.proofs.lemmas.Bool.{cond-true, cond-false, cases_Bool, cases_eq, eqb-true, eqb-false, ne_eqb, leb-true}
+use Rattle.plant.specs.declared.tank.line.TankLine.{TankLine}
 use Rattle.plant.specs.Belts.{Move, no_move, no_outcome, move_at, move_count}
 use Rattle.plant.specs.Laws.{LawfulBelt, LawfulMove, LawfulOutcome}
 use Rattle.plant.specs.Tank.{choose, state_of, rest_move, freed, jet_move, most_jets, tank_moves, stuck, tank_line}
+use Rattle.plant.specs.TankLaid.{belt_of}
 
 -- the weights are 1 to 255: from below by their rule, from above by a test over all of them
 choose_some : (j m : ℕ) → m ≤ j → 1 ≤ choose j m
@@ -153,3 +155,7 @@ tank_lawful F P r b f1 f2 p2 r1 r2 b1 b2 =
       still_outside = λ s h. moves_still F P r b s (stuck_past F (s / (P + 1)) (pieces_outside F P s h));
       still_at_goals = λ s h. moves_still F P r b s (stuck_none F (s / (P + 1)) (eqb-true (s / (P + 1)) 0 h));
     }
+
+-- so does the belt of a line, whose numbers are within their ranges
+pub line_lawful : (t : TankLine) → LawfulBelt (belt_of t)
+line_lawful t = tank_lawful t.pieces t.levels t.rest t.jet t.some.0 t.some.1 t.full.1 t.slow.0 t.slow.1 t.dear.0 t.dear.1

@@ -12,7 +12,8 @@ use crate::fault::PlantFault;
 use crate::plant::Plant;
 use arrayvec::ArrayVec;
 
-/// A plant without some of its moves; the others move up in order.
+/// A plant without some of its moves; the others move up in order. (Its contracts speak of the bars and of the belt below
+/// apart, since a call that bars changes the one and keeps the other.)
 #[derive(Drop)]
 pub struct Barring<P> {
     plant: P,
@@ -84,20 +85,21 @@ impl<P: Plant> Barring<P> {
     }
 
     // The number that a move has below: the open move with so many open ones before it, or itself where none is open.
-    #[tactic(auto, using(crate::proofs::OpenMoves::found_all, crate::proofs::OpenMoves::found_open))]
+    #[tactic(auto, using(crate::proofs::OpenMoves::found_all, crate::proofs::OpenMoves::found_open, crate::proofs::OpenMoves::found_some))]
     fn below(&self, state: u16, number: u8) -> Option<u8>
         ensures { move_at (belt_left P.meaning self.now) state number ≡ move_found (P.meaning self.now.plant) state result }
     {
         let shut = shut_in(&self.bars, state);
         let count = self.plant.move_count(state);
-        if open_count(&shut, count) == 0 {
-            return Some(number);
+        match open_at(&shut, count, usize::from(number)) {
+            Some(below) => Some(below),
+            None => (open_count(&shut, count) == 0).then_some(number),
         }
-        open_at(&shut, count, usize::from(number))
     }
 }
 
-/// A barring reads as the plant below without the barred moves.
+/// A barring reads as the plant below without the barred moves. (It hands on the other readings itself, as a surcharge does:
+/// one implementation for both would need a third trait with the same readings and laws.)
 impl<P: Plant> Plant for Barring<P> {
     ghost meaning = { belt_left P.meaning };
 

@@ -8,8 +8,9 @@ use crate::plant::MOST_MOVES;
 /// The most bars that a barring holds.
 pub const MOST_BARS: usize = 16;
 
-// One flag for each number that a move can have, so that a reading passes over the bars once.
-const NUMBERS: usize = 16;
+// One flag for each number that a move can have. (By a rule of the project no reading looks through the bars anew for each
+// move; the flags let it pass over them once.)
+const NUMBERS: usize = MOST_MOVES as usize;
 
 /// A barred move: its state, and its number in the plant below.
 #[derive(Clone, Copy, PartialEq, Eq, Debug, Default)]
@@ -40,7 +41,7 @@ fn note(shut: &mut [bool; NUMBERS], bar: Bar, state: u16)
     }
 }
 
-// How many of the first `count` numbers are not shut.
+// How many of the first `count` numbers are not shut. (The cast loses nothing, as the check proves.)
 pub(crate) fn open_count(shut: &[bool; NUMBERS], count: u8) -> u8
     requires { count ≤ 16 }
     ensures { result ≡ length (unset shut.now count) }
@@ -50,7 +51,8 @@ pub(crate) fn open_count(shut: &[bool; NUMBERS], count: u8) -> u8
         .count() as u8
 }
 
-// The number at a place among the first `count` numbers that are not shut.
+// The number at a place among the first `count` numbers that are not shut. (The chain stands twice, since no function can
+// hand one on whose closure it made.)
 pub(crate) fn open_at(shut: &[bool; NUMBERS], count: u8, place: usize) -> Option<u8>
     requires { count ≤ 16 }
     ensures { result ≡ slice_get (unset shut.now count) place }

@@ -3,6 +3,7 @@ ghost use Rattle.plant.specs.Faults.{plant_refusal};
 ghost use Rattle.refusal.specs.Line.{refusal_line};
 ghost use Rattle.std.specs.Prelude.{Some};
 
+use crate::bars::MOST_BARS;
 use refusal::{Fault, Layer, Refusal};
 use std::error::Error;
 use std::fmt;
@@ -20,7 +21,7 @@ pub enum PlantFault {
     Full,
 }
 
-/// The faults are refusals 6 to 9 of the layer plant, in their order.
+/// The faults are refusals 6 to 9 of the layer plant, in their order. (No `From`: see the trait.)
 impl Fault for PlantFault {
     ghost meaning = { plant_refusal };
 
@@ -29,17 +30,14 @@ impl Fault for PlantFault {
             PlantFault::Argument(index) => (6, *index),
             PlantFault::Unknown(state) => (7, usize::from(*state)),
             PlantFault::LastMove(state) => (8, usize::from(*state)),
-            PlantFault::Full => (9, 16),
+            PlantFault::Full => (9, MOST_BARS),
         };
-        Refusal {
-            number,
-            layer: Layer::Plant,
-            place,
-        }
+        Layer::Plant.refusal(number, place)
     }
 }
 
-/// A fault prints the line of its refusal. (Written out: what a derive prints no contract says.)
+/// A fault prints the line of its refusal. (Written out in each layer: what a derive
+/// prints no contract says, and one impl for all faults Rust refuses.)
 impl fmt::Display for PlantFault {
     ghost output = { λ fault. Some (refusal_line (plant_refusal fault)) };
 

@@ -6,8 +6,8 @@ ghost use Rattle.refusal.specs.Told.{told};
 
 use crate::fault::PlantFault;
 
-// An argument from `low` to `high`, or its fault. (Two numbers and no range of the library: one that was walked through
-// has no last number any more, and a contract would have to rule it out.)
+// An argument from `low` to `high`, or its fault. (Two numbers and no range of the library: one that takes in its
+// last number may have been walked through, and a contract would have to rule that out.)
 pub(crate) fn ranged(index: usize, low: u16, high: u16, value: u64) -> Result<u16, PlantFault>
     ensures { told plant_refusal result ≡ ranged index low high value }
 {

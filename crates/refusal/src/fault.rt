@@ -5,7 +5,8 @@ ghost use Rattle.refusal.specs.declared.refusal.Refusal.{Refusal};
 use crate::layer::Layer;
 use crate::refusal::Refusal;
 
-/// A layer's own enum of faults; each case stands for one refusal.
+/// A layer's own enum of faults; each case stands for one refusal. (Each layer writes its own `Display` beside it: one for
+/// all faults would be an impl of a foreign trait for a type parameter, which Rust refuses.)
 pub trait Fault {
     // the refusal that a fault stands for
     ghost meaning: { Self → Refusal };

@@ -1,7 +1,8 @@
 //! The layers of the planner that can say no.
 ghost use Rattle.refusal.specs.Line.{layer_word};
-ghost use Rattle.std.specs.Prelude.{Some};
+ghost use Rattle.std.specs.Prelude.{◌≡◌, Some};
 
+use crate::refusal::Refusal;
 use std::fmt;
 
 /// The layer of the planner that refuses a call.
@@ -17,6 +18,19 @@ pub enum Layer {
     Plant,
     /// Opening or following a run.
     Run,
+}
+
+impl Layer {
+    /// The refusal of this layer with a number, at a place.
+    pub fn refusal(self, number: u8, place: usize) -> Refusal
+        ensures { result ≡ record { number = number; layer = self; place = place } }
+    {
+        Refusal {
+            number,
+            layer: self,
+            place,
+        }
+    }
 }
 
 /// A layer prints as its one word, as `joining`. (Written out: what a derive prints no contract says.)

@@ -80,7 +80,7 @@ impl<'a> TablePlant<'a> {
 }
 
 // How many moves the state of a record has. (A function of its own beside the next one: what they share is one chain of
-// the library's methods, and their limits are two rules.)
+// the library's methods, and their limits are two rules. The casts lose nothing, as the check proves.)
 fn moves_in(held: StateRecord) -> u8
     ensures { result ≡ moves_in held }
 {

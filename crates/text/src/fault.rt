@@ -21,7 +21,7 @@ pub enum TextFault {
     TooLong,
 }
 
-/// The faults are refusals 2, 3 and 19 of the layer text.
+/// The faults are refusals 2, 3 and 19 of the layer text. (No `From`: see the trait.)
 impl Fault for TextFault {
     ghost meaning = { text_refusal };
 
@@ -31,15 +31,12 @@ impl Fault for TextFault {
             TextFault::Number(place) => (3, *place),
             TextFault::TooLong => (19, LONGEST_TEXT),
         };
-        Refusal {
-            number,
-            layer: Layer::Text,
-            place,
-        }
+        Layer::Text.refusal(number, place)
     }
 }
 
-/// A fault prints the line of its refusal. (Written out: what a derive prints no contract says.)
+/// A fault prints the line of its refusal. (Written out in each layer: what a derive
+/// prints no contract says, and one impl for all faults Rust refuses.)
 impl fmt::Display for TextFault {
     ghost output = { λ fault. Some (refusal_line (text_refusal fault)) };
 

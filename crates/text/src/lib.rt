@@ -1,9 +1,9 @@
 //! The characters, the words and the numbers that a text is made of, and what is wrong with one.
 //!
 //! Everything is read at a place of the text, and answers with the place after it, so that a fault can say where it is.
-//! (The text and the place are two parameters and no reader that holds both: so a contract is one equation between what
-//! is answered and its definition, where that of a reader would have to translate the reader that is answered, and to say
-//! that its text is the same.)
+//! (The text and the place are two parameters and no reader that holds both: so a contract is one equation between what is
+//! answered and its definition. A reader that is answered would have to be translated in each contract, and one that is
+//! only lent would be built anew for each place.)
 
 #![tactic(auto)]
 

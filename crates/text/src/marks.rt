@@ -44,8 +44,6 @@ pub fn mark_of(byte: u8) -> Option<Mark>
 pub fn is_sign(text: &[u8], at: usize, sign: Sign) -> bool
     ensures { result ≡ is_at text.now at (sign_byte sign) }
 {
-    match text.get(at) {
-        Some(byte) => mark_of(*byte) == Some(Mark::Sign(sign)),
-        None => false,
-    }
+    text.get(at)
+        .is_some_and(|byte| mark_of(*byte) == Some(Mark::Sign(sign)))
 }

@@ -23,8 +23,8 @@ pub fn number_at(text: &[u8], at: usize) -> Result<Parsed<u64>, TextFault>
     Ok(read)
 }
 
-/// The number at a place, if it lies from `low` to `high`. (Two numbers and no range of the library: one that was walked
-/// through has no last number any more, and a contract would have to rule it out.)
+/// The number at a place, if it lies from `low` to `high`. (Two numbers and no range of the library: one
+/// that takes in its last number may have been walked through, and a contract would have to rule that out.)
 pub fn ranged_at(text: &[u8], at: usize, low: u64, high: u64) -> Result<Parsed<u64>, TextFault>
     ensures answer { told text_refusal result ≡ ranged_at low high text.now at }
     ensures within { IfOk result (λ n. (low ≤ n.value) × (n.value ≤ high)) }
@@ -37,7 +37,7 @@ pub fn ranged_at(text: &[u8], at: usize, low: u64, high: u64) -> Result<Parsed<u
     }
 }
 
-// The digits from a place on, and what they write.
+// The digits from a place on, and what they write; where there is none, the place after them is the same place.
 fn digits(text: &[u8], at: usize) -> Parsed<u64>
     ensures { result ≡ digits_at at (drop at text.now) }
 {

@@ -18,7 +18,8 @@ pub fn sign_at(text: &[u8], at: usize, sign: Sign) -> Result<usize, TextFault>
     }
 }
 
-/// The place after a word that is due at a place; the fault is at the first byte that is another.
+/// The place after a word that is due at a place; the fault is at the first byte that is another. (Each byte is asked for by
+/// `get`, so that the end of the text is a byte that is another; a chain over both would have to tell the two apart.)
 pub fn word_at(text: &[u8], at: usize, word: &[u8]) -> Result<usize, TextFault>
     ensures { told text_refusal result ≡ word_at text.now at word.now }
 {

@@ -6,11 +6,13 @@
 
 mod plants;
 mod purge;
+mod refused;
 mod shares;
 
 use joining::{Best, Joining, Mean, Worst, rise};
 use plants::show_plants;
 use purge::Purge;
+use refused::show_refusal;
 use shares::thirds_rounded_up;
 
 fn main(rt: HostRuntime) -> anyhow::Result<()> {
@@ -33,7 +35,8 @@ fn walk(rt: &HostRuntime) -> anyhow::Result<()> {
     show_prices(rt, "burst", &burst)?;
     show_shares(rt)?;
     show_rises(rt, &careful, &[0, 5120])?;
-    show_refusal(rt)?;
+    // A row whose last weight is 0 is refused at that place.
+    show_refusal(rt, Mean.join(&[3, 1, 0], &[0, 4096, 9216]))?;
     show_plants(rt)
 }
 
@@ -62,14 +65,5 @@ fn show_rises(rt: &HostRuntime, purge: &Purge, after: &[u32]) -> anyhow::Result<
     println!(rt;
         "careful purge, last figure 1024 higher: mean rises {mean}, worst {worst}, best {best}"
     )?;
-    Ok(())
-}
-
-// A row whose last weight is 0 is refused at that place.
-fn show_refusal(rt: &HostRuntime) -> anyhow::Result<()> {
-    match Mean.join(&[3, 1, 0], &[0, 4096, 9216]) {
-        Ok(figure) => println!(rt; "joined {figure}")?,
-        Err(fault) => println!(rt; "{fault}")?,
-    }
     Ok(())
 }

@@ -1,4 +1,5 @@
 //! The second part of the example: a tank line, the same line under two overlays, and what plants refuse.
+use crate::refused::show_refusal;
 use plant::{Barring, Plant, PlantFault, Surcharge, TankLine, alike};
 
 // The part on plants, in the order in which it prints.
@@ -59,25 +60,13 @@ fn show_order<P: Plant>(rt: &HostRuntime, line: &TankLine, under: &P) -> anyhow:
 
 // One refusal of each kind.
 fn show_refusals(rt: &HostRuntime) -> anyhow::Result<()> {
-    match TankLine::new(2, 16, 1, 2) {
-        Ok(_) => println!(rt; "a tank line was made")?,
-        Err(fault) => println!(rt; "{fault}")?,
-    }
+    show_refusal(rt, TankLine::new(2, 16, 1, 2))?;
     let mut full = full_barring()?;
     show_refusal(rt, full.bar(17, 0))?;
     show_refusal(rt, full.bar(17, 1))?;
     show_refusal(rt, full.bar(33, 0))?;
     let mut dearer = Surcharge::new(full);
     show_refusal(rt, dearer.charge(1_000))
-}
-
-// The line of a refused call.
-fn show_refusal(rt: &HostRuntime, answer: Result<(), PlantFault>) -> anyhow::Result<()> {
-    match answer {
-        Ok(()) => println!(rt; "not refused")?,
-        Err(fault) => println!(rt; "{fault}")?,
-    }
-    Ok(())
 }
 
 // A tank line on which sixteen states may not rest.

@@ -34,6 +34,7 @@ pub struct TankLine {
 }
 
 impl TankLine {
+    // Named here and not above: what a file names at its head stands before its structs with ghost fields.
     ghost use Rattle.plant.specs.TankLaid.{LaidOut, belt_of};
 
     /// The line with 1 to 15 pieces and 1 to 15 levels, where a rest costs 1 to 1,000 units and a jet 1 to 125.

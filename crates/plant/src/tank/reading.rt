@@ -3,7 +3,7 @@ ghost use Rattle.std.specs.Prelude.{◌≡◌};
 ghost use Rattle.plant.specs.Tank.{most_jets};
 ghost use Rattle.plant.specs.TankKinds.{FoundMove, FoundOutcome};
 ghost use Rattle.plant.specs.TankLaid.{belt_of};
-ghost use Rattle.plant.specs.TankLawful.{tank_lawful};
+ghost use Rattle.plant.specs.TankLawful.{line_lawful};
 
 use crate::plant::Plant;
 use crate::tank::kinds::{TankMove, TankOutcome};
@@ -37,7 +37,8 @@ impl TankLine {
     }
 }
 
-// The most jets at once where so many pieces are stuck and the tank stands at this level.
+// The most jets at once where so many pieces are stuck and the tank stands at this level. (The cast loses nothing, as the
+// check proves.)
 fn most_jets(pieces: u16, level: u16) -> u8
     ensures { result ≡ most_jets pieces level }
 {
@@ -48,7 +49,7 @@ fn most_jets(pieces: u16, level: u16) -> u8
 impl Plant for TankLine {
     ghost meaning = { belt_of };
 
-    ghost lawful = { λ t. tank_lawful t.pieces t.levels t.rest t.jet t.some.0 t.some.1 t.full.1 t.slow.0 t.slow.1 t.dear.0 t.dear.1 };
+    ghost lawful = { line_lawful };
 
     fn states(&self) -> u16 {
         (self.pieces + 1) * (self.levels + 1)
