@@ -32,7 +32,7 @@ pub struct OutcomeRecord {
 }
 
 /// What the first line of a plan says of its states.
-#[derive(Clone, Copy, PartialEq, Eq, Debug, Default)]
+#[derive(Clone, Copy, PartialEq, Eq, Debug)]
 pub struct PlanHead {
     /// How many states there are.
     pub count: u16,

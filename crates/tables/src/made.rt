@@ -41,7 +41,8 @@ impl<'a> TablePlant<'a> {
         }
     }
 
-    // The record of a state, where the number is one.
+    // The record of a state, where the number is one. (This and the next two stand apart: each asks the one before, and
+    // tests another number.)
     fn found_state(&self, state: u16) -> Option<StateRecord>
         ensures { FoundState self.now state result }
     {

@@ -1,4 +1,4 @@
--- What one byte more does to a word or a number that is being read.
+-- What a number is told as, by the digits at its front; and where a byte does not stand.
 use Rattle.std.proofs.Common.{◌≡◌, ℕ, ◌<◌, ◌≤◌, true, false, List, length, get_or, arith}
 use Rattle.std.proofs.lemmas.Bool.Decides.{nat_tests}
 use Rattle.refusal.specs.Told.{answered, refused}
