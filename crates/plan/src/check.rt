@@ -56,7 +56,7 @@ fn walk(text: &[u8], room: Counts, tables: &mut Tables) -> Result<PlanHead, Plan
         room,
     };
     let from = Past {
-        used: Counts::none(),
+        used: Counts::unused(),
         next: head.next,
     };
     let past = Source { text, limits }.write_lines(from, tables)?;

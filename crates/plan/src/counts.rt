@@ -14,8 +14,8 @@ pub struct Counts {
 }
 
 impl Counts {
-    // No record: the default, by the name that the definitions have for it.
-    pub(crate) fn none() -> Counts
+    // No record. (The default under a contract of its own: at the walk the check does not find that it is `unused`.)
+    pub(crate) fn unused() -> Counts
         ensures { result ≡ unused }
     {
         Counts::default()

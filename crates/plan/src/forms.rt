@@ -44,6 +44,7 @@ impl Source<'_> {
         let inside = open_at(self.text, from.next, from.used.moves, room)?;
         let first = keyword_at(self.text, inside, b"move")?;
         let cost = ranged_at(self.text, first, 1, u64::from(GREATEST_COST))?;
+        // A cast that the check proves to lose nothing, as above.
         Ok(Parsed {
             value: cost.value as u16,
             next: cost.next,
@@ -64,7 +65,8 @@ pub(crate) fn state_at(text: &[u8], at: usize, states: u16) -> Result<Parsed<u64
     }
 }
 
-// An opening bracket at which a record is due, of whose table `used` of `room` places are taken.
+// An opening bracket at which a record is due, of whose table `used` of `room` places are taken. (`free` says here, and in the
+// three readings above it, that one record more can be counted; no struct could hold it, since it is about what is answered.)
 pub(crate) fn open_at(text: &[u8], at: usize, used: usize, room: usize) -> Result<usize, PlanFault>
     ensures answer { told plan_refusal result ≡ open_at text.now at used room }
     ensures free { OnOk result (used < 2 ^ 64 - 1) }

@@ -86,6 +86,7 @@ fn due_at(text: &[u8], at: usize, due: usize) -> Result<Parsed<u64>, PlanFault>
     ensures { told plan_refusal result ≡ due_at due text.now at }
 {
     let read = number_at(text, at)?;
+    // A cast to a wider type, for which there is no `From`.
     if read.value == due as u64 {
         Ok(read)
     } else {

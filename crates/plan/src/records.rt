@@ -1,6 +1,6 @@
 //! What a plan is held as: a record for each state, each move and each outcome, in three tables. (A record names places
-//! of the next table, since the caller lends the memory and the libraries use no heap. That a state and a move each have
-//! `first` and `end` is a rule of the project: these are the fields that callers fill and read.)
+//! of the next table, since the caller lends the memory and the libraries use no heap. A state and a move each
+//! have `first` and `end`: a struct of the two would be one name more wherever they are read.)
 
 /// A state: its moves stand in the table of moves, from the place `first` up to the place before `end`.
 #[derive(Clone, Copy, PartialEq, Eq, Debug, Default)]

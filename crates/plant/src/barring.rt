@@ -13,7 +13,7 @@ use crate::plant::Plant;
 use arrayvec::ArrayVec;
 
 /// A plant without some of its moves; the others move up in order. (Its contracts speak of the bars and of the belt below
-/// apart, since a call that bars changes the one and keeps the other.)
+/// apart, as the definitions that they share do: a call that bars changes the one and keeps the other.)
 #[derive(Drop)]
 pub struct Barring<P> {
     plant: P,

@@ -9,7 +9,7 @@ use crate::plant::MOST_MOVES;
 pub const MOST_BARS: usize = 16;
 
 // One flag for each number that a move can have. (By a rule of the project no reading looks through the bars anew for each
-// move; the flags let it pass over them once.)
+// move; the flags let it pass over them once. The cast is to a wider type; a constant cannot call `From`.)
 const NUMBERS: usize = MOST_MOVES as usize;
 
 /// A barred move: its state, and its number in the plant below.
@@ -51,8 +51,8 @@ pub(crate) fn open_count(shut: &[bool; NUMBERS], count: u8) -> u8
         .count() as u8
 }
 
-// The number at a place among the first `count` numbers that are not shut. (The chain stands twice, since no function can
-// hand one on whose closure it made.)
+// The number at a place among the first `count` numbers that are not shut. (The chain stands twice: a function that
+// hands on an iterator of its own gets no proof.)
 pub(crate) fn open_at(shut: &[bool; NUMBERS], count: u8, place: usize) -> Option<u8>
     requires { count ≤ 16 }
     ensures { result ≡ slice_get (unset shut.now count) place }

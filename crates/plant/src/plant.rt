@@ -18,7 +18,7 @@ pub const MOST_OUTCOMES: u8 = 16;
 /// A plant: a belt that can be read. (The field calls it a stochastic shortest-path problem.) States, moves and
 /// outcomes are numbered from 0. A number outside the belt reads as 0, and as no goal; a goal has no moves. (0 and not an
 /// `Option`, by a rule of the project: a reading has an answer for every number. A state and a move's number are two
-/// parameters, as the rules name a move; a `Bar` is such a pair that is kept.)
+/// parameters: a struct of them would be built for each reading, and taken apart again by each definition.)
 pub trait Plant {
     // the belt that the plant stands for
     ghost meaning: { Self → Belt };

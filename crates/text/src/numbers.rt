@@ -37,7 +37,8 @@ pub fn ranged_at(text: &[u8], at: usize, low: u64, high: u64) -> Result<Parsed<u
     }
 }
 
-// The digits from a place on, and what they write; where there is none, the place after them is the same place.
+// The digits from a place on, and what they write. (Where there is none, the place after them is the same place; an `Option`
+// would only say it again.)
 fn digits(text: &[u8], at: usize) -> Parsed<u64>
     ensures { result ≡ digits_at at (drop at text.now) }
 {

@@ -40,7 +40,8 @@ fn walk(rt: &HostRuntime) -> anyhow::Result<()> {
     show_plants(rt)
 }
 
-// A purge's price under each joining. (Each is asked by name, since three joinings are three types.)
+// A purge's price under each joining. (Here and in `show_rises` each is asked by name, since three joinings
+// are three types.)
 fn show_prices(rt: &HostRuntime, name: &str, purge: &Purge) -> anyhow::Result<()> {
     let mean = purge.price(&Mean)?;
     let worst = purge.price(&Worst)?;
