@@ -66,7 +66,8 @@ pub(crate) fn state_at(text: &[u8], at: usize, states: u16) -> Result<Parsed<u64
 }
 
 // An opening bracket at which a record is due, of whose table `used` of `room` places are taken. (`free` says here, and in the
-// three readings above it, that one record more can be counted; no struct could hold it, since it is about what is answered.)
+// three readings that ask this one, that one record more can be counted; no struct could hold it, since it is about what is
+// answered.)
 pub(crate) fn open_at(text: &[u8], at: usize, used: usize, room: usize) -> Result<usize, PlanFault>
     ensures answer { told plan_refusal result ≡ open_at text.now at used room }
     ensures free { OnOk result (used < 2 ^ 64 - 1) }
