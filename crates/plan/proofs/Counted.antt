@@ -21,7 +21,7 @@ moves_counted u (m ∷ ms) =
     (omega (arith, e.0), omega (arith, e.1))
 
 -- the outcomes of two rows of moves
-outcomes_of_both : (ls ms : List Move) → length (all_outcomes (ls ++ ms)) ≡ length (all_outcomes ls) + length (all_outcomes ms)
+pub outcomes_of_both : (ls ms : List Move) → length (all_outcomes (ls ++ ms)) ≡ length (all_outcomes ls) + length (all_outcomes ms)
 outcomes_of_both ls ms = ap length (flat_map-append (λ (m : Move). m.outcomes) ls ms) ∙ length-append (all_outcomes ls) (all_outcomes ms)
 
 module _ (room : Counts) where

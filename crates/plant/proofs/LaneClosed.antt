@@ -35,32 +35,36 @@ without_length j [] h = absurd (omega arith)
 without_length zero (v ∷ vs) h = refl
 without_length (suc j) (v ∷ vs) h = omega (arith, without_length j vs (omega arith))
 
-module _ (xs : List Bar) (b : Belt) (s k : ℕ) (told : answered tt ≡ bar_told xs b s k) where
-  -- what was answered was open, and one of several
-  inside : k < move_count b s
-  inside = grind (arith, nat_tests)
+-- what one bar more bars
+pub barred_push : (xs : List Bar) (x : Bar) (s k : ℕ) → barred (xs ++ (x ∷ [])) s k ≡ (barred xs s k || bars_it s k x)
+barred_push xs x s k = or_push (λ ys. barred ys s k) (bars_it s k) refl (λ _ _. refl) xs x
 
-  unbarred : barred xs s k ≡ false
-  unbarred = grind (arith, nat_tests)
+-- what was answered was open, and one of several
+pub record Taken (xs : List Bar) (b : Belt) (s k : ℕ) : Type 0 where
+  pub inside : k < move_count b s
+  pub unbarred : barred xs s k ≡ false
+  pub several : length (open_moves xs b s) ≡ 1 → ⊥
 
-  several : length (open_moves xs b s) ≡ 1 → ⊥
-  several one = grind (arith, nat_tests)
+pub taken : (xs : List Bar) (b : Belt) (s k : ℕ) → answered tt ≡ bar_told xs b s k → Taken xs b s k
+taken xs b s k told = record {
+  inside = grind (arith, nat_tests);
+  unbarred = grind (arith, nat_tests);
+  several = λ one. grind (arith, nat_tests);
+}
 
+module _ (xs : List Bar) (b : Belt) (s k : ℕ) (ok : Taken xs b s k) where
   abbrev new : List Bar
   new = xs ++ (record { state = s; number = k } ∷ [])
 
-  barred_push : (t n : ℕ) → barred new t n ≡ (barred xs t n || bars_it t n (record { state = s; number = k }))
-  barred_push t n = or_push (λ ys. barred ys t n) (bars_it t n) refl (λ _ _. refl) xs (record { state = s; number = k })
-
   same_number : (t n : ℕ) → (bars_it t n (record { state = s; number = k }) ≡ false) → barred new t n ≡ barred xs t n
-  same_number t n e = barred_push t n ∙ ap (λ c. barred xs t n || c) e ∙ or-false (barred xs t n)
+  same_number t n e = barred_push xs (record { state = s; number = k }) t n ∙ ap (λ c. barred xs t n || c) e ∙ or-false (barred xs t n)
 
   less : (open_moves new b s ≡ without (moved_up xs s k) (open_moves xs b s)) × (moved_up xs s k < length (open_moves xs b s))
   less = one_less (barred new s) (barred xs s) k
-      (barred_push s k ∙ or_right (barred xs s k) (eqb s s && eqb k k) (rw (eq-eqb s s refl, eq-eqb k k refl) refl))
-      unbarred
+      (barred_push xs (record { state = s; number = k }) s k ∙ or_right (barred xs s k) (eqb s s && eqb k k) (rw (eq-eqb s s refl, eq-eqb k k refl) refl))
+      ok.unbarred
       (λ n d. same_number s n (rw (eq-eqb s s refl, ne_eqb k n (λ e. d (sym e))) refl))
-      k 0 (b.moves s) (omega arith) inside
+      k 0 (b.moves s) (omega arith) ok.inside
 
   was : (barring xs b).moves s ≡ open_moves xs b s
   was = left_open (open_moves xs b s) (b.moves s) (let l = less.1 in omega arith)
@@ -68,7 +72,7 @@ module _ (xs : List Bar) (b : Belt) (s k : ℕ) (told : answered tt ≡ bar_told
   lane_closed : LaneClosed (barring xs b) (barring new b) s (moved_up xs s k)
   lane_closed =
       let l = less.1 in
-      let some = several in
+      let some = ok.several in
       let short = without_length (moved_up xs s k) (open_moves xs b s) l in
       let open' = ap length was in
       record {

@@ -1,8 +1,11 @@
 -- The moves of a state that are not barred, by their numbers.
-use Rattle.std.proofs.Common.{◌≡◌, ℕ, zero, suc, ◌+◌, ◌<◌, ◌≤◌, Bool, false, not, List, [], ◌∷◌, length, get_or, map, filter, Some, slice_get, sym, refl, ap, ◌∙◌, arith}
+use Rattle.std.proofs.Common.{◌≡◌, ℕ, zero, suc, ◌+◌, ◌<◌, ◌≤◌, Bool, false, not, List, [], ◌∷◌, length, get_or, map, filter, Some, None, slice_get, slice_index_or, sym, refl, ap, ◌∙◌, arith}
 use Rattle.std.specs.List.{range_with_len}
 use Rattle.std.proofs.lemmas.Bool.Decides.{nat_tests}
 use Rattle.std.proofs.lemmas.List.{length-map, nil_from_length}
+use Rattle.std.proofs.lemmas.List.Filters.{length-filter_both}
+use Rattle.std.proofs.lemmas.List.FromFn.{length-range_with_len}
+use Rattle.std.proofs.lemmas.Option.{slice_get_within}
 use Rattle.plant.specs.declared.bars.Bar.{Bar}
 use Rattle.plant.specs.Belts.{Belt, Move, no_move, move_count, move_at}
 use Rattle.plant.specs.Laws.{LawfulBelt}
@@ -22,6 +25,15 @@ found_at : (b : Belt) (s : ℕ) (ns : List ℕ) (n : ℕ) → get_or (map (move_
 found_at b s [] n = refl
 found_at b s (k ∷ ns) zero = refl
 found_at b s (k ∷ ns) (suc n) = found_at b s ns n
+
+-- the numbers that are not shut are as many as all but those that are
+pub unset_count : (flags : List Bool) (n : ℕ) → length (filter (λ k. slice_index_or flags k false) (range_with_len 0 n)) + length (unset flags n) ≡ n
+unset_count flags n = length-filter_both (λ k. slice_index_or flags k false) (λ k. not (slice_index_or flags k false)) (λ k. refl) (range_with_len 0 n) ∙ length-range_with_len 0 n
+
+-- a list of numbers with no first one is empty
+no_first : (ns : List ℕ) → slice_get ns 0 ≡ None → length ns ≡ 0
+no_first [] e = refl
+no_first (k ∷ ns) e = absurd (let z : ⊥ = grind (arith) in z)
 
 module _ (flags : List Bool) (shut : ℕ → Bool) (same : (k : ℕ) → k < 16 → get_or flags k false ≡ shut k) where
   abbrev unset_from : ℕ → ℕ → List ℕ
@@ -54,6 +66,14 @@ module _ (flags : List Bool) (held : List Bar) (n : ℕ) (xs : List Bar) (b : Be
   found_open m some =
       ap (λ (vs : List Move). get_or vs m no_move) (left_open (open_moves xs b s) (b.moves s) (omega (arith, open_length)) ∙ open_is)
       ∙ found_at b s (unset flags n) m
+
+  -- none is open where there is no first one
+  pub open_none : (m : ℕ) → slice_get (unset flags n) 0 ≡ None → move_at (barring xs b) s m ≡ move_at b s m
+  open_none m none = found_all m (no_first (unset flags n) none)
+
+  -- and some are where there is a first one
+  pub open_first : (m k : ℕ) → slice_get (unset flags n) 0 ≡ Some k → move_at (barring xs b) s m ≡ move_found b s (slice_get (unset flags n) m)
+  open_first m k is = found_open m (λ none. absurd (let z : ⊥ = omega (arith, slice_get_within (unset flags n) 0 k is) in z))
 
   pub found_some : (m k : ℕ) → slice_get (unset flags n) m ≡ Some k → move_at (barring xs b) s m ≡ move_at b s k
   found_some m k is =

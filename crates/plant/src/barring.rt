@@ -1,7 +1,6 @@
 //! An overlay that bars moves of a plant.
-ghost use Rattle.std.specs.Prelude.{◌≡◌, ◌<◌, [], length, OnOk};
+ghost use Rattle.std.specs.Prelude.{◌≡◌, ◌<◌, ◌≤◌, [], length, OnOk};
 ghost use Rattle.plant.specs.Bars.{Closes, bar_told, moved_up, open_moves, open_pair, pairs_after};
-ghost use Rattle.plant.specs.BarsHeld.{belt_left, move_found};
 ghost use Rattle.plant.specs.BarsLawful.{barring_lawful};
 ghost use Rattle.plant.specs.Belts.{move_at};
 ghost use Rattle.plant.specs.Faults.{plant_refusal};
@@ -18,9 +17,14 @@ use arrayvec::ArrayVec;
 pub struct Barring<P> {
     plant: P,
     bars: ArrayVec<Bar, MOST_BARS>,
+    // known of every barring; of an `ArrayVec` a caller learns its items alone
+    ghost few: { length bars.items ≤ 16 },
 }
 
 impl<P: Plant> Barring<P> {
+    // Named here and not above: what a file names at its head stands before its structs with ghost fields.
+    ghost use Rattle.plant.specs.BarsHeld.{belt_left, move_found};
+
     /// The plant, with no bar as yet.
     pub fn new(plant: P) -> Barring<P>
         ensures { (result.plant ≡ plant) × (result.bars.items ≡ []) }
@@ -46,7 +50,8 @@ impl<P: Plant> Barring<P> {
 
     /// The bars that are held, in the order in which they were made.
     pub fn bars(&self) -> &[Bar]
-        ensures { result.now ≡ self.now.bars.items }
+        ensures held { result.now ≡ self.now.bars.items }
+        ensures few { length result.now ≤ 16 }
     {
         self.bars.as_slice()
     }
@@ -85,7 +90,8 @@ impl<P: Plant> Barring<P> {
     }
 
     // The number that a move has below: the open move with so many open ones before it, or itself where none is open.
-    #[tactic(auto, using(crate::proofs::OpenMoves::found_all, crate::proofs::OpenMoves::found_open, crate::proofs::OpenMoves::found_some))]
+    #[tactic(auto, using(crate::proofs::OpenMoves::found_all, crate::proofs::OpenMoves::found_open, crate::proofs::OpenMoves::found_some, crate::proofs::OpenMoves::open_none, crate::proofs::OpenMoves::open_first))]
+    #[inline]
     fn below(&self, state: u16, number: u8) -> Option<u8>
         ensures { move_at (belt_left P.meaning self.now) state number ≡ move_found (P.meaning self.now.plant) state result }
     {
@@ -93,7 +99,7 @@ impl<P: Plant> Barring<P> {
         let count = self.plant.move_count(state);
         match open_at(&shut, count, usize::from(number)) {
             Some(below) => Some(below),
-            None => (open_count(&shut, count) == 0).then_some(number),
+            None => open_at(&shut, count, 0).is_none().then_some(number),
         }
     }
 }
@@ -101,6 +107,8 @@ impl<P: Plant> Barring<P> {
 /// A barring reads as the plant below without the barred moves. (It hands on the other readings itself, as a surcharge does:
 /// one implementation for both would need a third trait with the same readings and laws.)
 impl<P: Plant> Plant for Barring<P> {
+    ghost use Rattle.plant.specs.BarsHeld.{belt_left};
+
     ghost meaning = { belt_left P.meaning };
 
     ghost lawful = { λ p. barring_lawful p.bars.items (P.meaning p.plant) (P.lawful p.plant) };

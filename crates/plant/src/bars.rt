@@ -21,18 +21,22 @@ pub struct Bar {
     pub number: u8,
 }
 
-// For each number of a move, whether it is barred in this state.
+// For each number of a move, whether it is barred in this state. (A bar of another state is passed over here, though `note`
+// would do so too: docs/DECISIONS.md says why, of a barring's readings.)
 pub(crate) fn shut_in(bars: &[Bar], state: u16) -> [bool; NUMBERS]
     ensures { (k : ℕ) → k < 16 → slice_index_or result k false ≡ barred bars.now state k }
 {
     let mut shut = [false; NUMBERS];
     for bar in bars {
-        note(&mut shut, *bar, state);
+        if bar.state == state {
+            note(&mut shut, *bar, state);
+        }
     }
     shut
 }
 
 // Shuts the number of a bar, if it is of this state.
+#[inline]
 fn note(shut: &mut [bool; NUMBERS], bar: Bar, state: u16)
     ensures { (k : ℕ) → k < 16 → slice_index_or shut.new k false ≡ (slice_index_or shut.old k false || bars_it state k bar) }
 {
@@ -41,18 +45,21 @@ fn note(shut: &mut [bool; NUMBERS], bar: Bar, state: u16)
     }
 }
 
-// How many of the first `count` numbers are not shut. (The cast loses nothing, as the check proves.)
+// How many of the first `count` numbers are not shut. (What is counted are the shut ones, of which there are mostly few: the
+// library's `filter` takes longer for a number that it hands on. The cast loses nothing, as the check proves.)
 pub(crate) fn open_count(shut: &[bool; NUMBERS], count: u8) -> u8
     requires { count ≤ 16 }
     ensures { result ≡ length (unset shut.now count) }
 {
-    (0..count)
-        .filter(|number| !shut[usize::from(*number)])
-        .count() as u8
+    count
+        - (0..count)
+            .filter(|number| shut[usize::from(*number)])
+            .count() as u8
 }
 
-// The number at a place among the first `count` numbers that are not shut. (The chain stands twice: a function that
-// hands on an iterator of its own gets no proof.)
+// The number at a place among the first `count` numbers that are not shut. (A function beside the one before, since one that
+// hands on an iterator of its own gets no proof. Inlined, as docs/DECISIONS.md says of a barring's readings.)
+#[inline(always)]
 pub(crate) fn open_at(shut: &[bool; NUMBERS], count: u8, place: usize) -> Option<u8>
     requires { count ≤ 16 }
     ensures { result ≡ slice_get (unset shut.now count) place }
